@@ -1,7 +1,8 @@
 //! What is wrong with the answers of one transaction: they contradict each other, or are of what nobody left.
 use crate::anomaly::Anomaly;
-use crate::cause::{Answer, Cause, CycleEdge, EdgeKind, Evidence};
+use crate::cause::{Answer, Cause, CycleEdge, EdgeKind};
 use crate::evident::{Choice, Evident};
+use crate::naming::name_within;
 use crate::own::{OwnFault, fault_in};
 use hek_history::Status;
 use hek_levels::{Change, Log, Need, Own, Read, Transaction, Writer};
@@ -35,16 +36,16 @@ pub(crate) fn cause_of_edge(
     Ok(cause)
 }
 
-/// Why a read has no source, with who wrote its value and left something else, or aborted.
-fn why_unread(log: &Log, reader: usize, read: Read) -> (Anomaly, Option<usize>) {
-    let mut found = (Anomaly::UnwrittenRead, None);
+/// Why a read has no source, with who wrote its value and left something else, or aborted; the opening, if nobody did.
+fn why_unread(log: &Log, reader: usize, read: Read) -> (Anomaly, Writer) {
+    let mut found = (Anomaly::UnwrittenRead, Writer::Opening);
     for (t, transaction) in log.transactions.iter().enumerate() {
         let is_last = has(transaction.writes.as_slice(), read);
         let is_any = is_last || has(transaction.passing.as_slice(), read);
         if t == reader && is_any {
-            found = (Anomaly::LaterWriteRead, None);
+            found = (Anomaly::LaterWriteRead, Writer::Opening);
         } else if is_any {
-            return (name_of_other(transaction, is_last), Some(t));
+            return (name_of_other(transaction, is_last), Writer::Transaction(t));
         }
     }
     found
@@ -54,13 +55,8 @@ fn why_unread(log: &Log, reader: usize, read: Read) -> (Anomaly, Option<usize>) 
 fn name_of_other(transaction: &Transaction, is_last: bool) -> Anomaly {
     match transaction.status {
         Status::Aborted => Anomaly::AbortedRead,
-        Status::Committed | Status::Unknown => {
-            if is_last {
-                Anomaly::ReadOfContradiction
-            } else {
-                Anomaly::IntermediateRead
-            }
-        }
+        Status::Committed | Status::Unknown if is_last => Anomaly::ReadOfContradiction,
+        Status::Committed | Status::Unknown => Anomaly::IntermediateRead,
     }
 }
 
@@ -82,20 +78,7 @@ pub(crate) fn unread_cause(
     read: Read,
 ) -> Result<Cause, NoMemory> {
     let (anomaly, writer) = why_unread(log, reader, read);
-    let edge = CycleEdge {
-        kind: EdgeKind::Read,
-        first: match writer {
-            Some(t) => Writer::Transaction(t),
-            None => Writer::Opening,
-        },
-        second: Writer::Transaction(reader),
-        key: Some(read.key),
-        read: Some(read.need),
-        written: None,
-        scanned: false,
-        evidence: Evidence::Answer,
-        source: None,
-    };
+    let edge = CycleEdge::of_read(writer, reader, read, false);
     let answer = Answer {
         transaction: reader,
         key: Some(read.key),
@@ -106,15 +89,8 @@ pub(crate) fn unread_cause(
 /// The edge of a transaction whose own answers contradict each other.
 fn own_edge(t: usize, fault: OwnFault) -> CycleEdge {
     CycleEdge {
-        kind: EdgeKind::Own(fault),
-        first: Writer::Transaction(t),
-        second: Writer::Transaction(t),
         key: fault.key(),
-        read: None,
-        written: None,
-        scanned: false,
-        evidence: Evidence::Answer,
-        source: None,
+        ..CycleEdge::new(EdgeKind::Own(fault), Writer::Transaction(t), t)
     }
 }
 
@@ -129,26 +105,33 @@ fn name_of_fault(fault: OwnFault) -> Anomaly {
             ..
         } => {
             let is_absent = matches!(before, Need::Absent) || matches!(after, Need::Absent);
-            if scanned && is_absent {
-                Anomaly::PhantomWithin
-            } else {
-                Anomaly::NonRepeatableRead
-            }
+            name_within(scanned, is_absent)
         }
         OwnFault::Unordered { .. } | OwnFault::Outside { .. } => Anomaly::OwnAnswers,
     }
 }
 
 impl Evident<'_> {
-    /// Adds what is wrong with transactions alone; without `all` the first.
-    pub(crate) fn tell_alone(&self, all: bool, causes: &mut Vec<Cause>) -> Result<(), NoMemory> {
+    /// Adds what is wrong with transactions alone, or those that disagree: that see all that they read, and found two values of a key
+    /// which they didn't change between; without `all` the first.
+    pub(crate) fn tell_alone(
+        &self,
+        disagree: bool,
+        all: bool,
+        causes: &mut Vec<Cause>,
+    ) -> Result<(), NoMemory> {
         for t in 0..self.problem.transactions() {
             if !all && !causes.is_empty() {
                 return Ok(());
             }
-            if self.problem.is_committed(t) {
+            if !self.problem.is_committed(t) {
+                continue;
+            }
+            if !disagree {
                 self.tell_own(t, causes)?;
                 self.tell_unread(t, causes)?;
+            } else if self.sees_all(t) {
+                self.tell_two_values(t, causes)?;
             }
         }
         Ok(())
@@ -205,26 +188,8 @@ impl Evident<'_> {
         }
     }
 
-    /// Adds the transactions that found two values of a key which they didn't change between, where they see all that they read;
-    /// without `all` the first.
-    pub(crate) fn tell_disagreeing(
-        &self,
-        all: bool,
-        causes: &mut Vec<Cause>,
-    ) -> Result<(), NoMemory> {
-        for t in 0..self.problem.transactions() {
-            if !all && !causes.is_empty() {
-                return Ok(());
-            }
-            if self.problem.is_committed(t) && self.sees_all(t) {
-                self.tell_two_values(t, causes)?;
-            }
-        }
-        Ok(())
-    }
-
     /// Whether each read of a transaction sees the sources of all its reads.
-    pub(crate) fn sees_all(&self, t: usize) -> bool {
+    fn sees_all(&self, t: usize) -> bool {
         let rules = self.problem.rules(t);
         rules.whole || matches!(rules.own, Own::All)
     }
@@ -264,9 +229,7 @@ impl Evident<'_> {
 /// Whether nothing meets both needs.
 fn are_apart(first: Need, second: Need) -> bool {
     match (first, second) {
-        (Need::Absent, Need::Present) | (Need::Present, Need::Absent) => true,
-        (Need::Absent, Need::Value(_)) | (Need::Value(_), Need::Absent) => true,
         (Need::Value(x), Need::Value(y)) => x != y,
-        _ => false,
+        _ => matches!(first, Need::Absent) != matches!(second, Need::Absent),
     }
 }

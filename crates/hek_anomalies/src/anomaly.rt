@@ -71,253 +71,60 @@ pub enum Anomaly {
     NoOrder,
 }
 
-/// An anomaly with its name, which has its sign in the literature if it has one; and what one and several are called in counts.
-#[derive(Clone, Copy)]
-struct Named {
-    anomaly: Anomaly,
-    name: &'static str,
-    one: &'static str,
-    several: &'static str,
-}
-
-fn named(anomaly: Anomaly, name: &'static str, one: &'static str, several: &'static str) -> Named {
-    Named {
-        anomaly,
-        name,
-        one,
-        several,
-    }
-}
-
-/// All names.
-const NAMES: [Named; 33] = [
-    Named {
-        anomaly: Anomaly::DirtyWrite,
-        name: "dirty write (G0)",
-        one: "dirty write",
-        several: "dirty writes",
-    },
-    Named {
-        anomaly: Anomaly::AbortedRead,
-        name: "aborted read (G1a)",
-        one: "aborted read",
-        several: "aborted reads",
-    },
-    Named {
-        anomaly: Anomaly::IntermediateRead,
-        name: "intermediate read (G1b)",
-        one: "intermediate read",
-        several: "intermediate reads",
-    },
-    Named {
-        anomaly: Anomaly::UnwrittenRead,
-        name: "a value that nobody wrote",
-        one: "value that nobody wrote",
-        several: "values that nobody wrote",
-    },
-    Named {
-        anomaly: Anomaly::LaterWriteRead,
-        name: "read of its own later write",
-        one: "read of its own later write",
-        several: "reads of their own later writes",
-    },
-    Named {
-        anomaly: Anomaly::ReadOfContradiction,
-        name: "a read of one that contradicts itself",
-        one: "read of one that contradicts itself",
-        several: "reads of those that contradict themselves",
-    },
-    Named {
-        anomaly: Anomaly::CircularInformationFlow,
-        name: "circular information flow (G1c)",
-        one: "circular information flow",
-        several: "circular information flows",
-    },
-    Named {
-        anomaly: Anomaly::InsertThatExists,
-        name: "insert that exists",
-        one: "insert that exists",
-        several: "inserts that exist",
-    },
-    Named {
-        anomaly: Anomaly::LostUpdate,
-        name: "lost update",
-        one: "lost update",
-        several: "lost updates",
-    },
-    Named {
-        anomaly: Anomaly::ReadSkew,
-        name: "read skew (G-single)",
-        one: "read skew",
-        several: "read skews",
-    },
-    Named {
-        anomaly: Anomaly::BothOrders,
-        name: "writes seen in both orders",
-        one: "pair of writes seen in both orders",
-        several: "pairs of writes seen in both orders",
-    },
-    Named {
-        anomaly: Anomaly::SingleAntiDependency,
-        name: "G-single",
-        one: "G-single",
-        several: "G-single",
-    },
-    Named {
-        anomaly: Anomaly::WriteSkew,
-        name: "write skew (G2-item)",
-        one: "write skew",
-        several: "write skews",
-    },
-    Named {
-        anomaly: Anomaly::ReadOnlyAnomaly,
-        name: "read-only anomaly (G2-item)",
-        one: "read-only anomaly",
-        several: "read-only anomalies",
-    },
-    Named {
-        anomaly: Anomaly::Phantom,
-        name: "phantom (G2)",
-        one: "phantom",
-        several: "phantoms",
-    },
-    Named {
-        anomaly: Anomaly::LongFork,
-        name: "long fork (G-nonadjacent)",
-        one: "long fork",
-        several: "long forks",
-    },
-    Named {
-        anomaly: Anomaly::Nonadjacent,
-        name: "G-nonadjacent",
-        one: "G-nonadjacent",
-        several: "G-nonadjacent",
-    },
-    Named {
-        anomaly: Anomaly::AntiDependencyCycle,
-        name: "G2-item",
-        one: "G2-item",
-        several: "G2-item",
-    },
-    Named {
-        anomaly: Anomaly::StaleRead,
-        name: "stale read (G-single-realtime)",
-        one: "stale read",
-        several: "stale reads",
-    },
-    Named {
-        anomaly: Anomaly::RealTimeSkew,
-        name: "against real time (G2-item-realtime)",
-        one: "cycle of reads against real time",
-        several: "cycles of reads against real time",
-    },
-    Named {
-        anomaly: Anomaly::AgainstRealTime,
-        name: "against real time (G1c-realtime)",
-        one: "cycle against real time",
-        several: "cycles against real time",
-    },
-    Named {
-        anomaly: Anomaly::SessionRead,
-        name: "stale read in a session (G-single-process)",
-        one: "stale read in a session",
-        several: "stale reads in a session",
-    },
-    Named {
-        anomaly: Anomaly::SessionSkew,
-        name: "against a session (G2-item-process)",
-        one: "cycle of reads against a session",
-        several: "cycles of reads against a session",
-    },
-    Named {
-        anomaly: Anomaly::AgainstSession,
-        name: "against a session (G1c-process)",
-        one: "cycle against a session",
-        several: "cycles against a session",
-    },
-    Named {
-        anomaly: Anomaly::NonRepeatableRead,
-        name: "non-repeatable read",
-        one: "non-repeatable read",
-        several: "non-repeatable reads",
-    },
-    Named {
-        anomaly: Anomaly::PhantomWithin,
-        name: "phantom in one transaction",
-        one: "phantom in one transaction",
-        several: "phantoms in one transaction",
-    },
-    Named {
-        anomaly: Anomaly::OwnWriteLost,
-        name: "own write lost",
-        one: "own write lost",
-        several: "own writes lost",
-    },
-    Named {
-        anomaly: Anomaly::OwnAnswers,
-        name: "the answers of one transaction contradict each other",
-        one: "scan at fault",
-        several: "scans at fault",
-    },
-    Named {
-        anomaly: Anomaly::ReadsGoBack,
-        name: "reads of a session go back",
-        one: "session whose reads go back",
-        several: "sessions whose reads go back",
-    },
-    Named {
-        anomaly: Anomaly::OwnWriteMissed,
-        name: "own write of the session missed",
-        one: "own write of the session missed",
-        several: "own writes of the session missed",
-    },
-    Named {
-        anomaly: Anomaly::WritesApart,
-        name: "writes of a session apart",
-        one: "pair of writes of a session apart",
-        several: "pairs of writes of a session apart",
-    },
-    Named {
-        anomaly: Anomaly::CauseMissed,
-        name: "cause without effect",
-        one: "cause without effect",
-        several: "causes without effect",
-    },
-    Named {
-        anomaly: Anomaly::NoOrder,
-        name: "no order of transactions",
-        one: "contradiction by steps",
-        several: "contradictions by steps",
-    },
+/// What the anomalies are called, in their order: each by its name, with its sign in the literature if it has one, and what one and several
+/// are called in counts.
+const NAMES: [&str; 33] = [
+    "dirty write (G0)|dirty write|dirty writes",
+    "aborted read (G1a)|aborted read|aborted reads",
+    "intermediate read (G1b)|intermediate read|intermediate reads",
+    "a value that nobody wrote|value that nobody wrote|values that nobody wrote",
+    "read of its own later write|read of its own later write|reads of their own later writes",
+    "a read of one that contradicts itself|read of one that contradicts itself|reads of those that contradict themselves",
+    "circular information flow (G1c)|circular information flow|circular information flows",
+    "insert that exists|insert that exists|inserts that exist",
+    "lost update|lost update|lost updates",
+    "read skew (G-single)|read skew|read skews",
+    "writes seen in both orders|pair of writes seen in both orders|pairs of writes seen in both orders",
+    "G-single|G-single|G-single",
+    "write skew (G2-item)|write skew|write skews",
+    "read-only anomaly (G2-item)|read-only anomaly|read-only anomalies",
+    "phantom (G2)|phantom|phantoms",
+    "long fork (G-nonadjacent)|long fork|long forks",
+    "G-nonadjacent|G-nonadjacent|G-nonadjacent",
+    "G2-item|G2-item|G2-item",
+    "stale read (G-single-realtime)|stale read|stale reads",
+    "against real time (G2-item-realtime)|cycle of reads against real time|cycles of reads against real time",
+    "against real time (G1c-realtime)|cycle against real time|cycles against real time",
+    "stale read in a session (G-single-process)|stale read in a session|stale reads in a session",
+    "against a session (G2-item-process)|cycle of reads against a session|cycles of reads against a session",
+    "against a session (G1c-process)|cycle against a session|cycles against a session",
+    "non-repeatable read|non-repeatable read|non-repeatable reads",
+    "phantom in one transaction|phantom in one transaction|phantoms in one transaction",
+    "own write lost|own write lost|own writes lost",
+    "the answers of one transaction contradict each other|scan at fault|scans at fault",
+    "reads of a session go back|session whose reads go back|sessions whose reads go back",
+    "own write of the session missed|own write of the session missed|own writes of the session missed",
+    "writes of a session apart|pair of writes of a session apart|pairs of writes of a session apart",
+    "cause without effect|cause without effect|causes without effect",
+    "no order of transactions|contradiction by steps|contradictions by steps",
 ];
 
 impl Anomaly {
-    /// The row of names.
-    fn names(self) -> Named {
-        for one in NAMES {
-            if one.anomaly == self {
-                return one;
-            }
+    /// One of the three things that it is called.
+    fn called(self, which: usize) -> &'static str {
+        match NAMES.get(self as usize) {
+            Some(names) => names.split('|').nth(which).unwrap_or(""),
+            None => "",
         }
-        named(
-            self,
-            "no order of transactions",
-            "contradiction",
-            "contradictions",
-        )
     }
 
     /// The name, with its sign in the literature if it has one.
     pub fn name(self) -> &'static str {
-        self.names().name
+        self.called(0)
     }
 
     /// What so many are called in counts.
     pub fn counted(self, count: u64) -> &'static str {
-        if count == 1 {
-            self.names().one
-        } else {
-            self.names().several
-        }
+        self.called(if count == 1 { 1 } else { 2 })
     }
 }

@@ -1,7 +1,7 @@
 //! What keeps a log from a level: its name, and the cycle that shows it.
 use crate::anomaly::Anomaly;
 use crate::own::OwnFault;
-use hek_levels::{Need, Writer};
+use hek_levels::{Need, Read, Writer};
 
 /// Why one transaction is before another.
 #[derive(Clone, Copy)]
@@ -62,6 +62,33 @@ pub struct CycleEdge {
     pub evidence: Evidence,
     /// Who wrote what was read and then written over.
     pub source: Option<Writer>,
+}
+
+impl CycleEdge {
+    /// An edge of a kind from one to a transaction, by an answer or times alone.
+    pub(crate) fn new(kind: EdgeKind, first: Writer, second: usize) -> CycleEdge {
+        CycleEdge {
+            kind,
+            first,
+            second: Writer::Transaction(second),
+            key: None,
+            read: None,
+            written: None,
+            scanned: false,
+            evidence: Evidence::Answer,
+            source: None,
+        }
+    }
+
+    /// The edge of a read of what the first left.
+    pub(crate) fn of_read(first: Writer, reader: usize, read: Read, scanned: bool) -> CycleEdge {
+        CycleEdge {
+            key: Some(read.key),
+            read: Some(read.need),
+            scanned,
+            ..CycleEdge::new(EdgeKind::Read, first, reader)
+        }
+    }
 }
 
 /// What a transaction was answered at a key, or at all keys.

@@ -4,7 +4,7 @@ use crate::cause::{Cause, CycleEdge};
 use crate::edges::{add_readings, counts, edge_of};
 use crate::evident::Evident;
 use crate::links::{Link, Links, NO_LINK, Shown, is_point, leads_to, transaction_of};
-use crate::naming::{HEAVIEST, Weight, name_of, weight_of};
+use crate::naming::{Weight, name_of, weight_of};
 use hek_levels::Own;
 use hek_levels_search::{Problem, add, at, part, put, reverse_from};
 use hek_rules::NoMemory;
@@ -15,34 +15,6 @@ const PAIRED: usize = 6;
 
 /// How many links are gone along in one round, in which no longer cycle is looked for once a cycle was found.
 const GONE_ALONG: usize = 5_000_000;
-
-/// Which cycles of links no explanation has.
-#[derive(Clone, Copy)]
-struct Shape {
-    /// All, since each transaction reads what those left that committed before a point.
-    is_by_points: bool,
-    /// Those with up to so many reads that were written over by one that need not be seen: with one, of which each other link is seen.
-    most: usize,
-    /// Whether those with such a read may have more than two links.
-    is_long: bool,
-    /// Whether the other read must not be later than the one that was written over.
-    is_forward: bool,
-}
-
-/// Which cycles the rules exclude.
-fn shape_of(problem: &Problem) -> Shape {
-    let rules = problem.rules(0);
-    Shape {
-        is_by_points: problem.is_by_points,
-        most: if matches!(rules.own, Own::Nothing) {
-            0
-        } else {
-            1
-        },
-        is_long: rules.causes && matches!(rules.own, Own::All),
-        is_forward: matches!(rules.own, Own::Earlier),
-    }
-}
 
 /// Along which links a cycle is looked for.
 #[derive(Clone, Copy, PartialEq, Eq)]
@@ -70,13 +42,6 @@ struct Round {
     from: usize,
     to: usize,
 }
-
-/// The round past the end.
-const NO_ROUND: Round = Round {
-    weight: HEAVIEST,
-    from: 0,
-    to: 0,
-};
 
 /// How a point was reached: over which link, from which point, and over how many links from the start.
 #[derive(Clone, Copy)]
@@ -158,20 +123,21 @@ impl Cycles {
 
     /// Finds cycles of two transactions, or longer ones where there is none.
     fn find(&mut self, evident: &Evident) -> Result<(), NoMemory> {
-        let shape = shape_of(evident.problem);
+        let problem = evident.problem;
         self.links.fill(evident)?;
         self.places.clear();
         self.rounds.clear();
-        self.find_pairs(evident, shape)?;
+        self.find_pairs(evident)?;
         if !self.rounds.is_empty() {
             return Ok(());
         }
-        self.prepare(evident.problem.transactions())?;
-        if shape.is_by_points {
+        self.prepare(problem.transactions())?;
+        if problem.is_by_points {
             return self.find_longer(evident, Along::All);
         }
         self.find_longer(evident, Along::Before)?;
-        if self.rounds.is_empty() && shape.most > 0 && shape.is_long {
+        let rules = problem.rules(0);
+        if self.rounds.is_empty() && rules.causes && matches!(rules.own, Own::All) {
             return self.find_seen(evident);
         }
         Ok(())
@@ -189,7 +155,9 @@ impl Cycles {
         causes: &mut Vec<Cause>,
     ) -> Result<(), NoMemory> {
         for place in 0..self.rounds.len() {
-            let round = at(self.rounds.as_slice(), place, NO_ROUND);
+            let Some(round) = self.rounds.get(place).copied() else {
+                break;
+            };
             if self.is_whole(evident, round) {
                 self.tell_round(evident, round, causes)?;
                 if !all {
@@ -217,10 +185,8 @@ impl Cycles {
         round: Round,
         causes: &mut Vec<Cause>,
     ) -> Result<(), NoMemory> {
-        let mut cycle = Vec::new(self.alloc);
-        self.take_edges(evident, round, &mut cycle)?;
-        let mut readings = Vec::new(self.alloc);
-        self.take_readings(round, &mut readings)?;
+        let cycle = self.edges_of(evident, round.from, round.to)?;
+        let readings = self.readings_of(round)?;
         let anomaly = name_of(evident, cycle.as_slice());
         let mut cause = cause_of(self.alloc, anomaly, cycle);
         evident.show_taken(&mut cause)?;
@@ -232,30 +198,30 @@ impl Cycles {
         Ok(())
     }
 
-    /// Takes the edges of a cycle, from its first transaction on.
-    fn take_edges(
+    /// The edges of a cycle whose links stand from a place up to another, from its first transaction on.
+    fn edges_of(
         &self,
         evident: &Evident,
-        round: Round,
-        cycle: &mut Vec<CycleEdge>,
-    ) -> Result<(), NoMemory> {
-        let start = self.first_place(round);
-        for place in part(self.places.as_slice(), start, round.to) {
-            add(cycle, edge_of(evident, self.link(*place)))?;
+        from: usize,
+        to: usize,
+    ) -> Result<Vec<CycleEdge>, NoMemory> {
+        let mut cycle = Vec::new(self.alloc);
+        let start = self.first_place(from, to);
+        for (from, to) in [(start, to), (from, start)] {
+            for place in part(self.places.as_slice(), from, to) {
+                add(&mut cycle, edge_of(evident, self.link(*place)))?;
+            }
         }
-        for place in part(self.places.as_slice(), round.from, start) {
-            add(cycle, edge_of(evident, self.link(*place)))?;
-        }
-        Ok(())
+        Ok(cycle)
     }
 
     /// Where the link of the first transaction of a cycle stands.
-    fn first_place(&self, round: Round) -> usize {
-        let mut start = round.from;
+    fn first_place(&self, from: usize, to: usize) -> usize {
+        let mut start = from;
         let mut least = usize::MAX;
-        for place in round.from..round.to {
+        for place in from..to {
             let link = self.link(at(self.places.as_slice(), place, 0));
-            let first = transaction_of(link.first);
+            let (first, _) = link.ends();
             if first < least {
                 least = first;
                 start = place;
@@ -264,56 +230,52 @@ impl Cycles {
         start
     }
 
-    /// Takes the readings that a cycle is by, each once.
-    fn take_readings(&self, round: Round, readings: &mut Vec<usize>) -> Result<(), NoMemory> {
+    /// The readings that a cycle is by, each once.
+    fn readings_of(&self, round: Round) -> Result<Vec<usize>, NoMemory> {
+        let mut readings = Vec::new(self.alloc);
         for place in part(self.places.as_slice(), round.from, round.to) {
-            add_readings(self.link(*place), readings)?;
+            add_readings(self.link(*place), &mut readings)?;
         }
         readings.sort_unstable();
         readings.dedup();
-        Ok(())
+        Ok(readings)
     }
 
     /// Where the links of one transaction before another stand.
     fn between(&self, first: usize, second: usize) -> (usize, usize) {
         let ends = (first, second);
-        let from = self.links.all.partition_point(|link| (
-            transaction_of(link.first),
-            transaction_of(link.second),
-        ) < ends);
-        let to = self.links.all.partition_point(|link| (
-            transaction_of(link.first),
-            transaction_of(link.second),
-        ) <= ends);
+        let links = &self.links.all;
+        let from = links.partition_point(|link| link.ends() < ends);
+        let to = links.partition_point(|link| link.ends() <= ends);
         (from, to)
     }
 
     /// Finds the cycles of two transactions.
-    fn find_pairs(&mut self, evident: &Evident, shape: Shape) -> Result<(), NoMemory> {
+    fn find_pairs(&mut self, evident: &Evident) -> Result<(), NoMemory> {
         let mut count: usize = 0;
         let mut before = (usize::MAX, usize::MAX);
         for place in 0..self.links.all.len() {
-            let link = self.link(place);
-            let ends = (transaction_of(link.first), transaction_of(link.second));
+            let ends = self.link(place).ends();
             if ends != before {
                 before = ends;
                 count = 0;
             }
             count = count.saturating_add(1);
             if ends.0 < ends.1 && count <= PAIRED {
-                self.pair(evident, shape, place)?;
+                self.pair(evident, place)?;
             }
         }
         Ok(())
     }
 
     /// Pairs a link with those back.
-    fn pair(&mut self, evident: &Evident, shape: Shape, place: usize) -> Result<(), NoMemory> {
+    fn pair(&mut self, evident: &Evident, place: usize) -> Result<(), NoMemory> {
         let link = self.link(place);
-        let (from, to) = self.between(transaction_of(link.second), transaction_of(link.first));
+        let (first, second) = link.ends();
+        let (from, to) = self.between(second, first);
         for other in from..to.min(from.saturating_add(PAIRED)) {
             let back = self.link(other);
-            if is_excluded(evident.problem, shape, link, back) {
+            if is_excluded(evident.problem, link, back) {
                 let start = self.places.len();
                 add(&mut self.places, place)?;
                 add(&mut self.places, other)?;
@@ -326,24 +288,15 @@ impl Cycles {
     /// Adds the cycle whose links stand from a place on.
     fn add_round(&mut self, evident: &Evident, from: usize) -> Result<(), NoMemory> {
         let to = self.places.len();
-        let mut round = Round {
-            weight: HEAVIEST,
-            from,
-            to,
-        };
-        let mut cycle = Vec::new(self.alloc);
-        self.take_edges(evident, round, &mut cycle)?;
-        round.weight = weight_of(evident, cycle.as_slice());
-        add(&mut self.rounds, round)
+        let cycle = self.edges_of(evident, from, to)?;
+        let weight = weight_of(evident, cycle.as_slice());
+        add(&mut self.rounds, Round { weight, from, to })
     }
 
     /// Finds a cycle through each point along some links, where it has one that is not longer than those that were found.
     fn find_longer(&mut self, evident: &Evident, along: Along) -> Result<(), NoMemory> {
         let mut least = usize::MAX;
         for point in 0..evident.problem.transactions().saturating_mul(2) {
-            if self.gone > GONE_ALONG {
-                break;
-            }
             if is_point(evident.problem, point) {
                 let quest = Quest {
                     start: point,
@@ -361,9 +314,6 @@ impl Cycles {
     fn find_seen(&mut self, evident: &Evident) -> Result<(), NoMemory> {
         let mut least = usize::MAX;
         for place in 0..self.links.all.len() {
-            if self.gone > GONE_ALONG {
-                break;
-            }
             let link = self.link(place);
             if link.plain {
                 let quest = Quest {
@@ -387,7 +337,7 @@ impl Cycles {
         self.turn = 0;
         self.gone = 0;
         for place in 0..self.links.all.len() {
-            let first = transaction_of(self.link(place).first);
+            let (first, _) = self.link(place).ends();
             for _ in self.starts.len()..first.saturating_add(1) {
                 add(&mut self.starts, place)?;
             }
@@ -412,6 +362,9 @@ impl Cycles {
         quest: Quest,
         least: usize,
     ) -> Result<usize, NoMemory> {
+        if self.gone > GONE_ALONG {
+            return Ok(least);
+        }
         self.turn = self.turn.saturating_add(1);
         self.queue.clear();
         add(&mut self.queue, quest.start)?;
@@ -500,27 +453,32 @@ impl Cycles {
     }
 }
 
-/// Whether no explanation has a link and one back.
-fn is_excluded(problem: &Problem, shape: Shape, link: Link, back: Link) -> bool {
+/// Whether no explanation has a link and one back: all cycles where each transaction reads what those left that committed before a point;
+/// where transactions see something, also those of a read that was written over by one that need not be seen, and a link that is seen.
+fn is_excluded(problem: &Problem, link: Link, back: Link) -> bool {
     if !leads_to(link.second, back.first) || !leads_to(back.second, link.first) {
         return false;
     }
-    if shape.is_by_points {
+    if problem.is_by_points {
         return true;
     }
     match (link.plain, back.plain) {
         (false, false) => true,
         (true, true) => false,
-        (true, false) => shape.most > 0 && back.seen && is_later(problem, shape, link, back),
-        (false, true) => shape.most > 0 && link.seen && is_later(problem, shape, back, link),
+        (true, false) => is_seen_over(problem, link, back),
+        (false, true) => is_seen_over(problem, back, link),
     }
 }
 
-/// Whether a read that was written over is not before the read of the same transaction by which it sees who wrote over it, where that
-/// counts.
-fn is_later(problem: &Problem, shape: Shape, over: Link, seen: Link) -> bool {
-    if !shape.is_forward || seen.shown != Shown::Read {
-        return true;
-    }
-    problem.reading(seen.reading).operation <= problem.reading(over.reading).operation
+/// Whether a link is seen where a read was written over: for transactions that see what their earlier reads did, by a read that is not
+/// after that.
+fn is_seen_over(problem: &Problem, over: Link, seen: Link) -> bool {
+    let is_in_time = match problem.rules(0).own {
+        Own::Nothing => false,
+        Own::Earlier if seen.shown == Shown::Read => {
+            problem.reading(seen.reading).operation <= problem.reading(over.reading).operation
+        }
+        Own::Earlier | Own::All => true,
+    };
+    seen.seen && is_in_time
 }

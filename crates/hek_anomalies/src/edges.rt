@@ -2,24 +2,10 @@
 use crate::cause::{CycleEdge, EdgeKind, Evidence, Sighting};
 use crate::evident::Evident;
 use crate::lanes::Lane;
-use crate::links::{Link, NONE, Shown, transaction_of, turn_between};
+use crate::links::{Link, NONE, Shown, turn_between};
 use hek_levels::Writer;
-use hek_levels_search::{Problem, Reading, add};
+use hek_levels_search::add;
 use hek_rules::NoMemory;
-
-/// The kind of a link's edge.
-fn kind_of(shown: Shown) -> EdgeKind {
-    match shown {
-        Shown::Read => EdgeKind::Read,
-        Shown::OverwroteSame
-        | Shown::OverwroteOpening
-        | Shown::OverwroteSeen
-        | Shown::OverwroteByTurn => EdgeKind::Overwritten,
-        Shown::WroteSeen | Shown::WroteByTurn => EdgeKind::Version,
-        Shown::Session => EdgeKind::Session,
-        Shown::RealTime => EdgeKind::RealTime,
-    }
-}
 
 /// What says that one writer is before another by a turn.
 fn evidence_of_turn(evident: &Evident, first: usize, second: usize) -> Evidence {
@@ -44,37 +30,41 @@ fn sighting_of(evident: &Evident, place: usize) -> Evidence {
     })
 }
 
-/// What shows a link, as its edge says it.
-fn evidence_of(evident: &Evident, link: Link) -> Evidence {
-    let (first, second) = (transaction_of(link.first), transaction_of(link.second));
+/// What says that a transaction wrote over what a reading found, by a turn.
+fn evidence_of_overwrite(evident: &Evident, place: usize, second: usize) -> Evidence {
+    match evident.source(place) {
+        Some(Writer::Transaction(first)) => evidence_of_turn(evident, first, second),
+        Some(Writer::Opening) | None => Evidence::Answer,
+    }
+}
+
+/// The kind of a link's edge, and what shows it.
+fn kind_of(evident: &Evident, link: Link) -> (EdgeKind, Evidence) {
+    let (first, second) = link.ends();
     match link.shown {
-        Shown::Read | Shown::OverwroteOpening | Shown::Session | Shown::RealTime =>
-            Evidence::Answer,
-        Shown::OverwroteSame => Evidence::SameVersion,
-        Shown::WroteByTurn => evidence_of_turn(evident, first, second),
-        Shown::OverwroteByTurn => match evident.source(link.reading) {
-            Some(Writer::Transaction(w)) => evidence_of_turn(evident, w, second),
-            Some(Writer::Opening) | None => Evidence::Answer,
-        },
-        Shown::OverwroteSeen | Shown::WroteSeen => sighting_of(evident, link.other),
+        Shown::Read => (EdgeKind::Read, Evidence::Answer),
+        Shown::OverwroteSame => (EdgeKind::Overwritten, Evidence::SameVersion),
+        Shown::OverwroteOpening => (EdgeKind::Overwritten, Evidence::Answer),
+        Shown::OverwroteSeen => (EdgeKind::Overwritten, sighting_of(evident, link.other)),
+        Shown::OverwroteByTurn => {
+            let evidence = evidence_of_overwrite(evident, link.reading, second);
+            (EdgeKind::Overwritten, evidence)
+        }
+        Shown::WroteSeen => (EdgeKind::Version, sighting_of(evident, link.other)),
+        Shown::WroteByTurn => (EdgeKind::Version, evidence_of_turn(evident, first, second)),
+        Shown::Session => (EdgeKind::Session, Evidence::Answer),
+        Shown::RealTime => (EdgeKind::RealTime, Evidence::Answer),
     }
 }
 
 /// The edge of a link.
 pub(crate) fn edge_of(evident: &Evident, link: Link) -> CycleEdge {
     let problem = evident.problem;
-    let kind = kind_of(link.shown);
-    let (first, second) = (transaction_of(link.first), transaction_of(link.second));
+    let (kind, evidence) = kind_of(evident, link);
+    let (first, second) = link.ends();
     let bare = CycleEdge {
-        kind,
-        first: Writer::Transaction(first),
-        second: Writer::Transaction(second),
-        key: None,
-        read: None,
-        written: None,
-        scanned: false,
-        evidence: evidence_of(evident, link),
-        source: None,
+        evidence,
+        ..CycleEdge::new(kind, Writer::Transaction(first), second)
     };
     if link.key == NONE {
         return bare;
@@ -83,26 +73,22 @@ pub(crate) fn edge_of(evident: &Evident, link: Link) -> CycleEdge {
         EdgeKind::Overwritten => second,
         _ => first,
     };
+    let left = problem.left_at(writer, link.key);
     let keyed = CycleEdge {
         key: Some(problem.keys.name(link.key)),
-        written: Some(value_left(problem, writer, link.key)),
+        written: Some(left.and_then(|there| there.value)),
         ..bare
     };
     if link.reading == NONE {
         return keyed;
     }
-    let reading: Reading = problem.reading(link.reading);
+    let reading = problem.reading(link.reading);
     CycleEdge {
         read: Some(reading.need),
         scanned: evident.is_scanned(reading),
         source: evident.source(link.reading),
         ..keyed
     }
-}
-
-/// What a transaction left at a key.
-fn value_left(problem: &Problem, t: usize, key: usize) -> Option<u64> {
-    problem.left_at(t, key)?.value
 }
 
 /// Adds the readings that a link is by.

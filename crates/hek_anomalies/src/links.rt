@@ -2,7 +2,7 @@
 use crate::evident::Evident;
 use crate::lanes::Lane;
 use hek_levels::{Own, Turn, Writer};
-use hek_levels_search::{Problem, add, at};
+use hek_levels_search::{Problem, Reading, add, at};
 use hek_rules::NoMemory;
 use std::alloc::Global;
 
@@ -47,6 +47,18 @@ pub(crate) struct Link {
     pub seen: bool,
 }
 
+impl Link {
+    /// Its transactions.
+    pub(crate) fn ends(self) -> (usize, usize) {
+        (transaction_of(self.first), transaction_of(self.second))
+    }
+
+    /// What it is by.
+    fn by(self) -> (Shown, usize, usize, usize) {
+        (self.shown, self.reading, self.other, self.key)
+    }
+}
+
 /// The link past the end.
 pub(crate) const NO_LINK: Link = Link {
     first: 0,
@@ -71,10 +83,15 @@ pub(crate) fn commit_of(t: usize) -> usize {
 
 /// The point at which a transaction reads: before it commits, but where it sees all that is before it.
 fn begin_of(problem: &Problem, t: usize) -> usize {
-    if problem.rules(t).whole {
-        commit_of(t)
-    } else {
+    point_of(problem, t, true)
+}
+
+/// The point before which a transaction sees what is before it, if it sees it, or else the one at which it commits.
+fn point_of(problem: &Problem, t: usize, sees: bool) -> usize {
+    if sees && !problem.rules(t).whole {
         t.saturating_mul(2)
+    } else {
+        commit_of(t)
     }
 }
 
@@ -159,15 +176,20 @@ impl Links {
     pub(crate) fn fill(&mut self, evident: &Evident) -> Result<(), NoMemory> {
         self.all.clear();
         self.gather(evident)?;
-        self.add_reads(evident)?;
+        self.gather_turns(evident)?;
+        for place in 0..self.found.len() {
+            let found = self.found_at(place);
+            if found.writer > 0 {
+                self.add_read(evident, found)?;
+                self.add_next_of(evident, found)?;
+            }
+        }
         self.add_groups(evident)?;
         for t in 0..evident.problem.transactions() {
             if evident.is_present(t) {
                 self.add_pairs(evident, t)?;
             }
         }
-        self.gather_turns(evident)?;
-        self.add_next_versions(evident)?;
         self.add_backs(evident)?;
         for place in 0..self.turned.len() {
             self.add_next(evident, place)?;
@@ -178,26 +200,10 @@ impl Links {
 
     /// Sorts the links by their transactions, each once.
     fn sort(&mut self) {
-        self.all.sort_unstable_by_key(|link| {
-            (
-                transaction_of(link.first),
-                transaction_of(link.second),
-                link.shown,
-                link.reading,
-                link.other,
-                link.key,
-            )
-        });
-        self.all.dedup_by_key(|link| {
-            (
-                link.first,
-                link.second,
-                link.shown,
-                link.reading,
-                link.other,
-                link.key,
-            )
-        });
+        self.all
+            .sort_unstable_by_key(|link| (link.ends(), link.by()));
+        self.all
+            .dedup_by_key(|link| (link.first, link.second, link.by()));
     }
 
     /// Gathers the readings that count by their sources and keys.
@@ -220,31 +226,25 @@ impl Links {
 
     /// Adds a link, if it is between two transactions.
     fn add_between(&mut self, link: Link) -> Result<(), NoMemory> {
-        if transaction_of(link.first) == transaction_of(link.second) {
+        let (first, second) = link.ends();
+        if first == second {
             return Ok(());
         }
         add(&mut self.all, link)
     }
 
-    /// Adds who read from whom.
-    fn add_reads(&mut self, evident: &Evident) -> Result<(), NoMemory> {
-        let problem = evident.problem;
-        for place in 0..self.found.len() {
-            let found = self.found_at(place);
-            if found.writer > 0 {
-                let reader = problem.reading(found.reading).reader;
-                self.add_between(Link {
-                    first: commit_of(found.writer.saturating_sub(1)),
-                    second: begin_of(problem, reader),
-                    shown: Shown::Read,
-                    key: found.key,
-                    reading: found.reading,
-                    seen: true,
-                    ..NO_LINK
-                })?;
-            }
-        }
-        Ok(())
+    /// Adds that who read is after whose value it found.
+    fn add_read(&mut self, evident: &Evident, found: Found) -> Result<(), NoMemory> {
+        let reader = evident.problem.reading(found.reading).reader;
+        self.add_between(Link {
+            first: commit_of(found.writer.saturating_sub(1)),
+            second: begin_of(evident.problem, reader),
+            shown: Shown::Read,
+            key: found.key,
+            reading: found.reading,
+            seen: true,
+            ..NO_LINK
+        })
     }
 
     /// Where the readers of what a writer left at a key stand.
@@ -300,19 +300,34 @@ impl Links {
         Ok(())
     }
 
-    /// Adds that a reader is before a transaction that wrote over what it read, if reads say so.
+    /// Adds that a reader is before a transaction that wrote over what it read, if it would see that one were it before. Where the reader
+    /// writes the key too, and sees those who wrote it before, the other is after it altogether.
     fn add_over(
         &mut self,
         evident: &Evident,
-        place: usize,
+        reading: usize,
         writer: usize,
         shown: Shown,
         other: usize,
     ) -> Result<(), NoMemory> {
-        match overwritten(evident.problem, place, writer, shown, other) {
-            Some(link) => self.add_between(link),
-            None => Ok(()),
+        let problem = evident.problem;
+        let Reading { reader, key, .. } = problem.reading(reading);
+        let rules = problem.rules(reader);
+        if !rules.whole && matches!(rules.own, Own::Nothing) {
+            return Ok(());
         }
+        let is_rival = sees_writers(problem, reader) && problem.left_at(reader, key).is_some();
+        let sees = is_rival && sees_writers(problem, writer);
+        self.add_between(Link {
+            first: point_of(problem, reader, !is_rival),
+            second: point_of(problem, writer, sees),
+            shown,
+            key,
+            reading,
+            other,
+            plain: !is_rival,
+            seen: is_rival,
+        })
     }
 
     /// Adds that readers of the opening are before those that write the key.
@@ -348,10 +363,8 @@ impl Links {
             .end_reading(t)
             .min(from.saturating_add(READINGS));
         for place in from..to {
-            if let Some(writer) = evident.source(place) {
-                if let Writer::Transaction(x) = writer {
-                    self.add_seen(evident, t, place, x)?;
-                }
+            if let Some(Writer::Transaction(writer)) = evident.source(place) {
+                self.add_seen(evident, t, place, writer)?;
                 for other in from..to {
                     self.add_pair(evident, place, writer, other)?;
                 }
@@ -366,37 +379,28 @@ impl Links {
         &mut self,
         evident: &Evident,
         place: usize,
-        writer: Writer,
+        writer: usize,
         other: usize,
     ) -> Result<(), NoMemory> {
         let Some(Writer::Transaction(x)) = evident.source(other) else {
             return Ok(());
         };
         let problem = evident.problem;
-        let reading = problem.reading(place);
-        if Writer::Transaction(x) == writer || problem.left_at(x, reading.key).is_none() {
+        let Reading { reader, key, .. } = problem.reading(place);
+        let both_write = x != writer && problem.left_at(x, key).is_some();
+        if !both_write || !sees_both(problem, reader, place, other) {
             return Ok(());
         }
-        let Writer::Transaction(w) = writer else {
-            return Ok(());
-        };
-        if !sees_both(problem, reading.reader, place, other) {
-            return Ok(());
-        }
-        let sees = sees_writers(problem, w);
+        let seen = sees_writers(problem, writer);
         self.add_between(Link {
             first: commit_of(x),
-            second: if sees {
-                begin_of(problem, w)
-            } else {
-                commit_of(w)
-            },
+            second: point_of(problem, writer, seen),
             shown: Shown::WroteSeen,
-            key: reading.key,
+            key,
             reading: place,
             other,
             plain: false,
-            seen: sees,
+            seen,
         })
     }
 
@@ -426,7 +430,7 @@ impl Links {
     fn add_backs(&mut self, evident: &Evident) -> Result<(), NoMemory> {
         for place in 0..self.all.len() {
             let link = at(self.all.as_slice(), place, NO_LINK);
-            let (first, second) = (transaction_of(link.first), transaction_of(link.second));
+            let (first, second) = link.ends();
             if let Some(turn) = turn_between(evident.problem, second, first) {
                 self.add_turn(evident, turn, second, first)?;
             }
@@ -452,26 +456,12 @@ impl Links {
         Ok(())
     }
 
-    /// Adds that readers of a version are before who wrote the next ones.
-    fn add_next_versions(&mut self, evident: &Evident) -> Result<(), NoMemory> {
-        for place in 0..self.found.len() {
-            let found = self.found_at(place);
-            if found.writer > 0 {
-                self.add_next_of(evident, found)?;
-            }
-        }
-        Ok(())
-    }
-
     /// Adds that a reader of a version is before who wrote the next ones.
     fn add_next_of(&mut self, evident: &Evident, found: Found) -> Result<(), NoMemory> {
         let problem = evident.problem;
         let key = problem.keys.name(found.key);
-        for (n, turn) in problem
-            .turns(found.writer.saturating_sub(1))
-            .iter()
-            .enumerate()
-        {
+        let writer = found.writer.saturating_sub(1);
+        for (n, turn) in problem.turns(writer).iter().enumerate() {
             if n >= TURNS {
                 return Ok(());
             }
@@ -513,11 +503,7 @@ impl Links {
         };
         self.add_between(Link {
             first: commit_of(x),
-            second: if seen {
-                begin_of(problem, t)
-            } else {
-                commit_of(t)
-            },
+            second: point_of(problem, t, seen),
             shown,
             key,
             seen,
@@ -587,9 +573,8 @@ fn sees_both(problem: &Problem, t: usize, place: usize, other: usize) -> bool {
 fn has_read(evident: &Evident, t: usize, key: usize, writer: usize) -> bool {
     let problem = evident.problem;
     for place in problem.first_reading(t)..problem.end_reading(t) {
-        let is_so = problem.reading(place).key == key
-            && evident.source(place) == Some(Writer::Transaction(writer));
-        if is_so {
+        let source = evident.source(place);
+        if problem.reading(place).key == key && source == Some(Writer::Transaction(writer)) {
             return true;
         }
     }
@@ -609,41 +594,4 @@ pub(crate) fn turn_between(problem: &Problem, x: usize, t: usize) -> Option<Turn
         }
     }
     None
-}
-
-/// The link of a reading that another wrote over, if its reader would see that one were it before. Where the reader writes the key
-/// too, and sees those who wrote it before, the other is after it altogether.
-fn overwritten(
-    problem: &Problem,
-    place: usize,
-    writer: usize,
-    shown: Shown,
-    other: usize,
-) -> Option<Link> {
-    let reading = problem.reading(place);
-    let reader = reading.reader;
-    let rules = problem.rules(reader);
-    if !rules.whole && matches!(rules.own, Own::Nothing) {
-        return None;
-    }
-    let is_rival = sees_writers(problem, reader) && problem.left_at(reader, reading.key).is_some();
-    let sees = is_rival && sees_writers(problem, writer);
-    Some(Link {
-        first: if is_rival {
-            commit_of(reader)
-        } else {
-            begin_of(problem, reader)
-        },
-        second: if sees {
-            begin_of(problem, writer)
-        } else {
-            commit_of(writer)
-        },
-        shown,
-        key: reading.key,
-        reading: place,
-        other,
-        plain: !is_rival,
-        seen: is_rival,
-    })
 }

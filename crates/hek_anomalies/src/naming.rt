@@ -4,12 +4,11 @@ use crate::cause::{CycleEdge, EdgeKind, Evidence};
 use crate::evident::Evident;
 use hek_history::Operation;
 use hek_levels::{Need, Writer};
-use hek_levels_search::Problem;
+use hek_levels_search::{Problem, at, part};
 
 /// How many edges of a kind a cycle has.
-#[derive(Clone, Copy)]
+#[derive(Clone, Copy, Default)]
 struct Kinds {
-    edges: usize,
     reads: usize,
     overwritten: usize,
     /// Versions that follow from what one transaction saw of both.
@@ -20,20 +19,9 @@ struct Kinds {
     missed: usize,
 }
 
-/// The kinds of no edge.
-const NO_KINDS: Kinds = Kinds {
-    edges: 0,
-    reads: 0,
-    overwritten: 0,
-    seen: 0,
-    sessions: 0,
-    real: 0,
-    missed: 0,
-};
-
-/// Whether an edge is by a scan in which a key is absent.
-fn is_missed(edge: CycleEdge) -> bool {
-    edge.scanned && matches!(edge.read, Some(Need::Absent))
+/// Whether an edge is by an answer that a key is absent.
+fn is_of_absence(edge: CycleEdge) -> bool {
+    matches!(edge.read, Some(Need::Absent))
 }
 
 /// One more.
@@ -44,7 +32,7 @@ fn count(number: &mut usize) {
 /// Whether the reader of a value that was written over writes the key too, where of two writers of a key one sees the other: then the edge
 /// is one of versions.
 fn is_of_writers(problem: &Problem, edge: CycleEdge) -> bool {
-    let (Some(t), Some(key)) = (transaction_in(edge.first), edge.key) else {
+    let (Writer::Transaction(t), Some(key)) = (edge.first, edge.key) else {
         return false;
     };
     let Some(place) = problem.keys.place_of(key) else {
@@ -55,13 +43,12 @@ fn is_of_writers(problem: &Problem, edge: CycleEdge) -> bool {
 
 impl Kinds {
     fn add(&mut self, problem: &Problem, edge: CycleEdge) {
-        count(&mut self.edges);
         match edge.kind {
             EdgeKind::Read => count(&mut self.reads),
             EdgeKind::Overwritten if is_of_writers(problem, edge) => {}
             EdgeKind::Overwritten => {
                 count(&mut self.overwritten);
-                if is_missed(edge) {
+                if edge.scanned && is_of_absence(edge) {
                     count(&mut self.missed);
                 }
             }
@@ -79,100 +66,73 @@ impl Kinds {
 
 /// How many edges of each kind a cycle has.
 fn kinds_of(problem: &Problem, cycle: &[CycleEdge]) -> Kinds {
-    let mut kinds = NO_KINDS;
+    let mut kinds = Kinds::default();
     for edge in cycle {
         kinds.add(problem, *edge);
     }
     kinds
 }
 
-/// The transaction of a writer.
-fn transaction_in(writer: Writer) -> Option<usize> {
-    match writer {
-        Writer::Opening => None,
-        Writer::Transaction(t) => Some(t),
+/// The key of a cycle of two edges, if both have one.
+fn one_key(cycle: &[CycleEdge]) -> Option<u64> {
+    match cycle {
+        [one, other] if one.key == other.key => one.key,
+        _ => None,
     }
 }
 
-/// The key of a cycle of which each edge has this key, and is of a transaction that writes it.
-fn one_key(problem: &Problem, cycle: &[CycleEdge]) -> Option<u64> {
-    let mut found = None;
+/// Whether the first transaction of each edge writes a key.
+fn are_writers(problem: &Problem, cycle: &[CycleEdge], key: u64) -> bool {
+    let Some(place) = problem.keys.place_of(key) else {
+        return false;
+    };
     for edge in cycle {
-        let key = edge.key?;
-        let place = problem.keys.place_of(key)?;
-        let _left = problem.left_at(transaction_in(edge.first)?, place)?;
-        if found.is_some() && found != Some(key) {
-            return None;
-        }
-        found = Some(key);
-    }
-    found
-}
-
-/// Whether all edges of a cycle have one key.
-fn is_of_one_key(cycle: &[CycleEdge]) -> bool {
-    let mut found = None;
-    for edge in cycle {
-        let Some(key) = edge.key else {
-            return false;
+        let writes = match edge.first {
+            Writer::Opening => false,
+            Writer::Transaction(t) => problem.left_at(t, place).is_some(),
         };
-        if found.is_some() && found != Some(key) {
+        if !writes {
             return false;
         }
-        found = Some(key);
     }
     true
 }
 
-/// Whether an operation inserts a key that was absent.
-fn inserts(operation: &Operation, wanted: u64) -> bool {
-    match operation {
-        Operation::Insert(key, _, done) => *key == wanted && *done,
-        _ => false,
-    }
-}
-
 /// Whether a transaction inserts a key that was absent.
-fn has_insert(evident: &Evident, t: usize, key: u64) -> bool {
-    match evident.history.transactions.get(t) {
-        Some(transaction) => {
-            for operation in &transaction.operations {
-                if inserts(operation, key) {
-                    return true;
-                }
+fn has_insert(evident: &Evident, t: usize, wanted: u64) -> bool {
+    let Some(transaction) = evident.history.transactions.get(t) else {
+        return false;
+    };
+    for operation in &transaction.operations {
+        if let Operation::Insert(key, _, true) = operation {
+            if *key == wanted {
+                return true;
             }
-            false
         }
-        None => false,
     }
+    false
 }
 
 /// Whether each edge says that its transaction inserted the key, which it found absent.
 fn are_inserts(evident: &Evident, cycle: &[CycleEdge], key: u64) -> bool {
     for edge in cycle {
-        let Some(t) = transaction_in(edge.first) else {
+        let Writer::Transaction(t) = edge.first else {
             return false;
         };
-        if !matches!(edge.read, Some(Need::Absent)) || !has_insert(evident, t, key) {
+        if !is_of_absence(*edge) || !has_insert(evident, t, key) {
             return false;
         }
     }
     true
 }
 
-/// Whether a writer writes nothing.
-fn is_reader(problem: &Problem, writer: Writer) -> bool {
-    match writer {
-        Writer::Opening => false,
-        Writer::Transaction(t) => problem.left_by(t).is_empty(),
-    }
-}
-
 /// Whether each transaction that read from the one before it in the cycle writes nothing.
 fn readers_only_read(problem: &Problem, cycle: &[CycleEdge]) -> bool {
     for edge in cycle {
-        if matches!(edge.kind, EdgeKind::Read) && !is_reader(problem, edge.second) {
-            return false;
+        if let (EdgeKind::Read, Writer::Transaction(reader)) = (edge.kind, edge.second) {
+            if !problem.left_by(reader).is_empty() {
+                return false;
+            }
         }
     }
     true
@@ -199,35 +159,20 @@ fn is_adjacent(problem: &Problem, cycle: &[CycleEdge]) -> bool {
     false
 }
 
-/// The name of a cycle with an edge by turns: one without a read that was written over, one with one, and one with several.
-fn name_by_count(overwritten: usize, names: [Anomaly; 3]) -> Anomaly {
-    let [none, one, several] = names;
-    match overwritten {
-        0 => none,
-        1 => one,
-        _ => several,
-    }
-}
+/// The names of a cycle with an edge of real time, and with one of a session: without a read that was written over, and with one.
+const BY_REAL_TIME: [Anomaly; 2] = [Anomaly::AgainstRealTime, Anomaly::StaleRead];
+
+const BY_SESSION: [Anomaly; 2] = [Anomaly::AgainstSession, Anomaly::SessionRead];
 
 /// The name of a cycle.
 pub(crate) fn name_of(evident: &Evident, cycle: &[CycleEdge]) -> Anomaly {
     let kinds = kinds_of(evident.problem, cycle);
-    if let Some(name) = name_of_rivals(evident, cycle, kinds) {
+    if let Some(name) = name_of_rivals(evident, cycle) {
         name
     } else if kinds.real > 0 {
-        let names = [
-            Anomaly::AgainstRealTime,
-            Anomaly::StaleRead,
-            Anomaly::RealTimeSkew,
-        ];
-        name_by_count(kinds.overwritten, names)
+        at(&BY_REAL_TIME, kinds.overwritten, Anomaly::RealTimeSkew)
     } else if kinds.sessions > 0 {
-        let names = [
-            Anomaly::AgainstSession,
-            Anomaly::SessionRead,
-            Anomaly::SessionSkew,
-        ];
-        name_by_count(kinds.overwritten, names)
+        at(&BY_SESSION, kinds.overwritten, Anomaly::SessionSkew)
     } else if kinds.overwritten > 0 {
         name_of_reads(evident, cycle, kinds)
     } else if kinds.seen > 0 {
@@ -240,74 +185,57 @@ pub(crate) fn name_of(evident: &Evident, cycle: &[CycleEdge]) -> Anomaly {
 }
 
 /// The name of a cycle of two who write one key, of which one wrote over what the other had not seen.
-fn name_of_rivals(evident: &Evident, cycle: &[CycleEdge], kinds: Kinds) -> Option<Anomaly> {
+fn name_of_rivals(evident: &Evident, cycle: &[CycleEdge]) -> Option<Anomaly> {
+    let key = one_key(cycle)?;
     let has_read = cycle
         .iter()
         .any(|edge| matches!(edge.kind, EdgeKind::Overwritten));
-    if kinds.edges != 2 || !has_read {
+    if !has_read || !are_writers(evident.problem, cycle, key) {
         return None;
     }
-    let key = one_key(evident.problem, cycle)?;
     if are_inserts(evident, cycle, key) {
         return Some(Anomaly::InsertThatExists);
     }
     Some(Anomaly::LostUpdate)
 }
 
-/// The name of a cycle in which something that was read is written over.
+/// The name of a cycle in which something that was read is written over, and that isn't one of rivals.
 fn name_of_reads(evident: &Evident, cycle: &[CycleEdge], kinds: Kinds) -> Anomaly {
-    if kinds.edges == 2
-        && kinds.reads == 1
-        && is_of_one_key(cycle)
-        && one_key(evident.problem, cycle).is_none()
-    {
-        return name_within(cycle);
+    if kinds.reads == 1 && one_key(cycle).is_some() {
+        let is_scanned = cycle.iter().any(|edge| edge.scanned);
+        let is_absent = cycle.iter().any(|edge| is_of_absence(*edge));
+        return name_within(is_scanned, is_absent);
     }
     if kinds.missed > 0 {
         return Anomaly::Phantom;
     }
-    if kinds.edges == 2 {
-        return name_of_two(kinds);
+    let shape = (cycle.len(), kinds.overwritten, kinds.reads);
+    match shape {
+        (2, 2, _) => Anomaly::WriteSkew,
+        (2, _, 1) => Anomaly::ReadSkew,
+        (2, _, _) | (_, 1, _) => Anomaly::SingleAntiDependency,
+        _ => {
+            let only_read = readers_only_read(evident.problem, cycle);
+            if shape == (3, 2, 1) && only_read {
+                Anomaly::ReadOnlyAnomaly
+            } else if is_adjacent(evident.problem, cycle) {
+                Anomaly::AntiDependencyCycle
+            } else if shape == (4, 2, 2) && only_read {
+                Anomaly::LongFork
+            } else {
+                Anomaly::Nonadjacent
+            }
+        }
     }
-    if kinds.overwritten == 1 {
-        return Anomaly::SingleAntiDependency;
-    }
-    let only_read = readers_only_read(evident.problem, cycle);
-    let adjacent = is_adjacent(evident.problem, cycle);
-    if kinds.overwritten == 2 && kinds.edges == 3 && kinds.reads == 1 && only_read {
-        return Anomaly::ReadOnlyAnomaly;
-    }
-    if adjacent {
-        return Anomaly::AntiDependencyCycle;
-    }
-    if kinds.overwritten == 2 && kinds.edges == 4 && kinds.reads == 2 && only_read {
-        return Anomaly::LongFork;
-    }
-    Anomaly::Nonadjacent
 }
 
-/// The name of a cycle of two reads of one key by one transaction.
-fn name_within(cycle: &[CycleEdge]) -> Anomaly {
-    let is_scanned = cycle.iter().any(|edge| edge.scanned);
-    let is_absent = cycle
-        .iter()
-        .any(|edge| matches!(edge.read, Some(Need::Absent)));
+/// The name of two answers of one transaction about one key.
+pub(crate) fn name_within(is_scanned: bool, is_absent: bool) -> Anomaly {
     if is_scanned && is_absent {
         Anomaly::PhantomWithin
     } else {
         Anomaly::NonRepeatableRead
     }
-}
-
-/// The name of a cycle of two edges, in which something that was read is written over.
-fn name_of_two(kinds: Kinds) -> Anomaly {
-    if kinds.overwritten == 2 {
-        return Anomaly::WriteSkew;
-    }
-    if kinds.reads == 1 {
-        return Anomaly::ReadSkew;
-    }
-    Anomaly::SingleAntiDependency
 }
 
 /// The anomalies of cycles of one weight, the one that is told first at the front.
@@ -325,14 +253,8 @@ const FIRST_TOLD: [Anomaly; 9] = [
 
 /// The place of an anomaly among those of one weight.
 fn rank_of(anomaly: Anomaly) -> usize {
-    let mut rank: usize = 0;
-    for one in FIRST_TOLD {
-        if one == anomaly {
-            return rank;
-        }
-        rank = rank.saturating_add(1);
-    }
-    rank
+    let place = FIRST_TOLD.iter().position(|one| *one == anomaly);
+    place.unwrap_or(FIRST_TOLD.len())
 }
 
 /// How much there is to a cycle: the lighter one is told first.
@@ -343,31 +265,12 @@ pub(crate) struct Weight {
     keys: usize,
 }
 
-/// What nothing is heavier than.
-pub(crate) const HEAVIEST: Weight = Weight {
-    weight: usize::MAX,
-    rank: usize::MAX,
-    keys: usize::MAX,
-};
-
-/// Whether an edge is not the first of a cycle with its key.
-fn has_key_before(cycle: &[CycleEdge], place: usize, key: Option<u64>) -> bool {
-    for (other, edge) in cycle.iter().enumerate() {
-        if other >= place {
-            return false;
-        }
-        if edge.key == key {
-            return true;
-        }
-    }
-    false
-}
-
 /// How many keys a cycle is of.
 fn keys_of(cycle: &[CycleEdge]) -> usize {
     let mut keys: usize = 0;
     for (place, edge) in cycle.iter().enumerate() {
-        if edge.key.is_some() && !has_key_before(cycle, place, edge.key) {
+        let before = part(cycle, 0, place);
+        if edge.key.is_some() && !before.iter().any(|other| other.key == edge.key) {
             count(&mut keys);
         }
     }

@@ -1,6 +1,6 @@
 //! What is told of a log that fails: what its answers show, the lightest first, or else its steps.
 use crate::alone::unread_cause;
-use crate::cause::{Cause, CycleEdge, EdgeKind, Evidence};
+use crate::cause::{Cause, CycleEdge, EdgeKind};
 use crate::cycles::Cycles;
 use crate::evident::Evident;
 use crate::lanes::Lanes;
@@ -96,11 +96,10 @@ fn show_all(
     for leaves_out in [false, true] {
         let mut evident = Evident::new(alloc, problem, telling.lanes, telling.history);
         evident.fill(leaves_out)?;
-        if causes.is_empty() {
-            evident.tell_alone(all, causes)?;
-        }
-        if causes.is_empty() {
-            evident.tell_disagreeing(all, causes)?;
+        for disagree in [false, true] {
+            if causes.is_empty() {
+                evident.tell_alone(disagree, all, causes)?;
+            }
         }
         if causes.is_empty() {
             let mut cycles = Cycles::new(alloc);
@@ -117,8 +116,7 @@ impl Evident<'_> {
             let Writer::Transaction(t) = edge.first else {
                 continue;
             };
-            let is_shown = matches!(edge.kind, EdgeKind::Read);
-            if !self.problem.is_committed(t) && !is_shown {
+            if !self.problem.is_committed(t) && !matches!(edge.kind, EdgeKind::Read) {
                 if let Some(read) = self.read_from(t) {
                     add(&mut cause.shown, read)?;
                 }
@@ -132,18 +130,12 @@ impl Evident<'_> {
         for place in 0..self.readings() {
             if self.source(place) == Some(Writer::Transaction(t)) {
                 let reading = self.problem.reading(place);
-                let read = self.read_of(reading);
-                return Some(CycleEdge {
-                    kind: EdgeKind::Read,
-                    first: Writer::Transaction(t),
-                    second: Writer::Transaction(reading.reader),
-                    key: Some(read.key),
-                    read: Some(read.need),
-                    written: None,
-                    scanned: self.is_scanned(reading),
-                    evidence: Evidence::Answer,
-                    source: None,
-                });
+                return Some(CycleEdge::of_read(
+                    Writer::Transaction(t),
+                    reading.reader,
+                    self.read_of(reading),
+                    self.is_scanned(reading),
+                ));
             }
         }
         None

@@ -1,10 +1,12 @@
 //! All anomalies of a log, each without the answers on which those before it rest: first those that a weak level excludes.
+use crate::choice::Extent;
 use crate::counted::Tally;
 use crate::forgetting::forget_cause;
-use crate::report::{Heading, Report};
-use hek_ladder::{Finding, Promise, Scene, ask, causes_of};
+use crate::report::{Answer, Report};
+use crate::verdict::FAILS;
+use hek_anomalies::Cause;
+use hek_ladder::{Finding, Promise, ask, causes_of};
 use hek_report::HekFault;
-use std::alloc::Global;
 use std::io::Write;
 
 /// What is said of the rest.
@@ -13,35 +15,6 @@ const UNKNOWN: &str = "unknown";
 const FINE: &str = "holds";
 
 const SERIALIZABLE: &str = "serializable";
-
-/// Writes all anomalies up to a level, and how many there are of each name.
-pub(crate) fn write_all<'a, W: Write>(
-    alloc: Global,
-    scene: &mut Scene,
-    promise: Promise,
-    heading: Heading,
-    held: &[Promise],
-    report: &mut Report<'_, W>,
-) -> Result<(), HekFault<'a>> {
-    let mut telling = All {
-        tally: Tally::new(alloc),
-        heading,
-        is_begun: false,
-    };
-    let mut rest = FINE;
-    for level in Promise::LEVELS.iter().rev() {
-        if is_up_to(*level, promise) {
-            rest = telling.tell_level(alloc, scene, *level, held, report)?;
-        }
-    }
-    if !Promise::LEVELS.contains(&promise) {
-        rest = telling.tell_level(alloc, scene, promise, held, report)?;
-    }
-    if rest == FINE && heading.promise.is_none() {
-        rest = SERIALIZABLE;
-    }
-    report.counts(heading, &mut telling.tally, rest, held)
-}
 
 /// Whether a level is one that another implies, or that itself.
 fn is_up_to(level: Promise, promise: Promise) -> bool {
@@ -55,58 +28,74 @@ fn is_up_to(level: Promise, promise: Promise) -> bool {
     false
 }
 
-/// What was told so far.
-#[derive(Drop)]
-struct All {
-    tally: Tally,
-    heading: Heading,
-    is_begun: bool,
-}
-
-impl All {
-    /// Tells what keeps the rest of a log from a level. Answers what is said of what is left.
-    fn tell_level<'a, W: Write>(
+impl<O: Write, W: Write> Report<'_, O, W> {
+    /// Writes all anomalies up to the level that is asked for, or else serializable, and how many there are of each name. Answers the exit
+    /// status.
+    pub(crate) fn say_all<'a>(
         &mut self,
-        alloc: Global,
-        scene: &mut Scene,
+        asked: Option<Promise>,
+        held: &[Promise],
+    ) -> Result<u8, HekFault<'a>> {
+        let promise = asked.unwrap_or(Promise::Serializable);
+        let mut tally = Tally::new(self.scene.alloc);
+        let mut rest = FINE;
+        for level in Promise::LEVELS.iter().rev() {
+            if is_up_to(*level, promise) {
+                rest = self.say_level_anomalies(asked, *level, held, &mut tally)?;
+            }
+        }
+        if !Promise::LEVELS.contains(&promise) {
+            rest = self.say_level_anomalies(asked, promise, held, &mut tally)?;
+        }
+        if rest == FINE && asked.is_none() {
+            rest = SERIALIZABLE;
+        }
+        self.say_counts(asked, &mut tally, rest, held)?;
+        Ok(FAILS)
+    }
+
+    /// Writes what keeps the rest of a log from a level, and forgets the answers on which that rests. Answers what is said of what is left.
+    fn say_level_anomalies<'a>(
+        &mut self,
+        asked: Option<Promise>,
         level: Promise,
         held: &[Promise],
-        report: &mut Report<'_, W>,
+        tally: &mut Tally,
     ) -> Result<&'static str, HekFault<'a>> {
         for _ in 0..usize::MAX {
-            let found = ask(alloc, scene, level)?;
+            let found = ask(&self.scene, level)?;
             match &found {
                 Finding::Holds(_) => return Ok(FINE),
                 Finding::Unknown(_) => return Ok(UNKNOWN),
                 Finding::Fails(_) | Finding::Lost(_, _) => {}
             }
-            self.tell_found(alloc, scene, level, &found, held, report)?;
-            scene.renew(alloc)?;
+            let causes = causes_of(&self.scene, level, &found, true)?;
+            for cause in causes.iter() {
+                if self.choice.extent != Extent::Counts {
+                    let answer = self.anomaly_of(asked, level, cause, held, tally);
+                    self.say(answer)?;
+                }
+                tally.count(cause.anomaly)?;
+                forget_cause(&mut self.scene, cause)?;
+            }
+            self.scene.renew()?;
         }
         Ok(UNKNOWN)
     }
 
-    /// Tells the anomalies of what was found, and forgets the answers on which they rest.
-    fn tell_found<'a, W: Write>(
-        &mut self,
-        alloc: Global,
-        scene: &mut Scene,
+    /// What is said of an anomaly: of the first behind the words of the verdict; objects of JSON say with it at which levels the log holds.
+    fn anomaly_of<'c>(
+        &self,
+        asked: Option<Promise>,
         level: Promise,
-        found: &Finding,
-        held: &[Promise],
-        report: &mut Report<'_, W>,
-    ) -> Result<(), HekFault<'a>> {
-        let causes = causes_of(alloc, scene, level, found, true)?;
-        for cause in causes.iter() {
-            if self.is_begun {
-                report.anomaly(level, cause, &scene.log)?;
-            } else {
-                report.begin_all(self.heading, level, cause, held, &scene.log)?;
-                self.is_begun = true;
-            }
-            self.tally.count(cause.anomaly)?;
-            forget_cause(alloc, &mut scene.log, cause)?;
+        cause: &'c Cause,
+        held: &'c [Promise],
+        tally: &Tally,
+    ) -> Answer<'c> {
+        if !tally.is_empty() {
+            return Answer::anomaly(level, cause);
         }
-        Ok(())
+        let said: &[Promise] = if self.is_text() { &[] } else { held };
+        Answer::failed(asked, level, cause, said)
     }
 }

@@ -18,6 +18,11 @@ impl Tally {
         }
     }
 
+    /// Whether nothing was counted.
+    pub(crate) fn is_empty(&self) -> bool {
+        self.counted.is_empty()
+    }
+
     /// Counts an anomaly.
     pub(crate) fn count(&mut self, anomaly: Anomaly) -> Result<(), NoMemory> {
         for one in self.counted.iter_mut() {

@@ -15,7 +15,8 @@ pub(crate) struct Counts {
 }
 
 /// Counts what takes place in an explanation.
-pub(crate) fn counts_of(alloc: Global, scene: &Scene, shown: &Shown) -> Result<Counts, NoMemory> {
+pub(crate) fn counts_of(scene: &Scene, shown: &Shown) -> Result<Counts, NoMemory> {
+    let alloc = scene.alloc;
     let history = &scene.log.history;
     let mut ends = Vec::new(alloc);
     let mut transactions: u64 = 0;
@@ -38,13 +39,11 @@ pub(crate) fn counts_of(alloc: Global, scene: &Scene, shown: &Shown) -> Result<C
 
 /// How many operations are reads or scans.
 fn reads_of(operations: &[Operation]) -> u64 {
-    let mut count: u64 = 0;
-    for operation in operations {
-        if let Operation::Read(_, _) | Operation::Scan(_, _) = operation {
-            count = count.saturating_add(1);
-        }
-    }
-    count
+    let reads = operations.iter().filter(|one| matches!(
+        **one,
+        Operation::Read(_, _) | Operation::Scan(_, _)
+    ));
+    reads.count() as u64
 }
 
 /// How many of these times would have to move for the others to be in order; nothing without times. The times that can

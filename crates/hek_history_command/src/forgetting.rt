@@ -2,7 +2,9 @@
 use hek_anomalies::{Answer, Cause};
 use hek_history::{Level, Operation, Scope, Transaction, covers, key_of};
 use hek_history_log::Log;
+use hek_ladder::Scene;
 use hek_levels::Writer;
+use hek_levels_search::part;
 use hek_rules::NoMemory;
 use std::alloc::Global;
 use std::mem;
@@ -110,15 +112,11 @@ fn add_parts(
         Scope::Range(from, to) => {
             let before = pairs.partition_point(|pair| pair.0 < key);
             let after = pairs.partition_point(|pair| pair.0 <= key);
-            let (low, _) = split(pairs, before);
-            let (_, high) = split(pairs, after);
+            let low = part(pairs, 0, before);
+            let high = part(pairs, after, pairs.len());
+            let above = Scope::Range(key.saturating_add(1), to);
             add_scan(alloc, operations, Scope::Range(from, key), low)?;
-            add_scan(
-                alloc,
-                operations,
-                Scope::Range(key.saturating_add(1), to),
-                high,
-            )
+            add_scan(alloc, operations, above, high)
         }
         Scope::Bucket(_, _) => {
             for pair in pairs {
@@ -131,24 +129,15 @@ fn add_parts(
     }
 }
 
-/// The parts of a list before a place and from it on.
-fn split(pairs: &[(u64, u64)], place: usize) -> (&[(u64, u64)], &[(u64, u64)]) {
-    if place <= pairs.len() {
-        pairs.split_at(place)
-    } else {
-        (pairs, &[])
-    }
-}
-
 /// Forgets the answers on which an anomaly rests; where it rests on none, the times, versions and session of a transaction of its cycle.
-pub(crate) fn forget_cause(alloc: Global, log: &mut Log, cause: &Cause) -> Result<(), NoMemory> {
+pub(crate) fn forget_cause(scene: &mut Scene, cause: &Cause) -> Result<(), NoMemory> {
     for answer in cause.answers.iter() {
-        forget_one(alloc, log, *answer)?;
+        forget_one(scene.alloc, &mut scene.log, *answer)?;
     }
     if cause.answers.is_empty() {
         for edge in cause.cycle.iter() {
             if let Writer::Transaction(place) = edge.first {
-                log.forget_turns(place);
+                scene.log.forget_turns(place);
                 return Ok(());
             }
         }

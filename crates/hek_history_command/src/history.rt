@@ -1,9 +1,8 @@
 //! The command `history`.
 use crate::choice::{Asked, Choice, effort_for};
 use crate::explained::Explained;
-use crate::levels::{write_guarantees, write_levels};
-use crate::report::Report;
-use crate::verdict::{write_one, write_verdict};
+use crate::report::{Answer, Kind, Report};
+use crate::verdict::{NOT_KNOWN, worse};
 use hek_history::{History, Status};
 use hek_history_log::{Log, LogFault, read_log_watching};
 use hek_ladder::{Binding, Scene, has_times};
@@ -11,10 +10,8 @@ use hek_report::{HekFault, buffered};
 use std::alloc::Global;
 use std::io::{Read, Write};
 
-/// The exit status after a fault of the log, and that of a log of which nothing is known.
+/// The exit status after a fault of the log.
 const AT_FAULT: u8 = 4;
-
-const NOT_KNOWN: u8 = 3;
 
 /// Reads the log in a file, and writes what is asked of it, with the order to `order_out` if one was found. Answers the exit status: 0 if it
 /// is serializable, or all that is asked for holds, 1 if not, 3 if neither is known or there is nothing to judge, 4 after a fault of the
@@ -77,34 +74,28 @@ fn answer<'a, W: Write, O: Write>(
     out: &mut W,
 ) -> Result<u8, HekFault<'a>> {
     let binding = Binding::of(&log, choice.wish);
-    let mut report = Report::new(alloc, choice, binding, out);
-    if !is_judged(&log.history) {
-        report.nothing()?;
+    let effort = effort_for(choice.effort, &log.history);
+    let scene = Scene::new(alloc, log, choice.asked.levels(), binding, effort)?;
+    let mut report = Report {
+        scene,
+        choice,
+        order_out,
+        out,
+    };
+    if !is_judged(&report.scene.log.history) {
+        report.say(Answer::new(Kind::Verdict, None, "nothing to judge"))?;
         return Ok(NOT_KNOWN);
     }
-    let effort = effort_for(choice.effort, &log.history);
-    let mut scene = Scene::new(alloc, log, choice.asked.levels(), binding, effort)?;
     match choice.asked {
-        Asked::Verdict => write_verdict(alloc, &mut scene, choice, order_out, &mut report),
-        Asked::One(promise) => {
-            write_one(alloc, &mut scene, choice, promise, order_out, &mut report)
-        }
-        Asked::Levels => write_levels(alloc, &mut scene, choice, order_out, &mut report),
-        Asked::Guarantees => write_guarantees(alloc, &scene, &mut report),
+        Asked::Verdict => report.say_verdict(),
+        Asked::One(promise) => report.say_one(promise),
+        Asked::Levels => report.say_levels(),
+        Asked::Guarantees => report.say_guarantees(),
         Asked::Both => {
-            let first = write_levels(alloc, &mut scene, choice, order_out, &mut report)?;
-            let second = write_guarantees(alloc, &scene, &mut report)?;
+            let first = report.say_levels()?;
+            let second = report.say_guarantees()?;
             Ok(worse(first, second))
         }
-    }
-}
-
-/// The status of two: 1 if one is, else 3 if one is.
-fn worse(first: u8, second: u8) -> u8 {
-    if first == 1 || second == 1 {
-        1
-    } else {
-        first.max(second)
     }
 }
 

@@ -1,135 +1,83 @@
 //! At which levels a log holds, and which guarantees of sessions it has: a line for each, the strongest first.
-use crate::all::write_all;
-use crate::choice::{Choice, Extent};
+use crate::choice::Extent;
 use crate::order_lines::write_order;
-use crate::report::{Heading, Report};
-use crate::verdict::{FAILS, HOLDS, NOT_KNOWN};
-use hek_ladder::{Finding, Ladder, Promise, Rung, Scene, Standing, ask, causes_of};
+use crate::report::Report;
+use crate::verdict::{FAILS, HOLDS, NOT_KNOWN, worse};
+use hek_ladder::{Finding, Ladder, Promise, Rung, Standing, ask, causes_of};
+use hek_levels_search::add;
 use hek_report::HekFault;
-use hek_rules::NoMemory;
-use std::alloc::Global;
 use std::io::Write;
 
-/// Writes a line for each level as soon as it is known: of those that fail the weakest has the reason. Answers the exit status.
-pub(crate) fn write_levels<'a, W: Write, O: Write>(
-    alloc: Global,
-    scene: &mut Scene,
-    choice: Choice,
-    order_out: &mut Option<O>,
-    report: &mut Report<'_, W>,
-) -> Result<u8, HekFault<'a>> {
-    let mut ladder = Ladder::new(alloc);
-    let mut waiting: Vec<Rung> = Vec::new(alloc);
-    let mut status = HOLDS;
-    for _ in Promise::LEVELS {
-        let Some(rung) = ladder.next(alloc, scene)? else {
-            break;
-        };
-        match rung.standing {
-            Standing::Fails => {
-                write_failed(scene, waiting.as_slice(), report)?;
-                waiting.clear();
-                wait(&mut waiting, rung)?;
-                status = FAILS;
-            }
-            Standing::Unknown => {
-                wait(&mut waiting, rung)?;
-                if status == HOLDS {
-                    status = NOT_KNOWN;
+impl<O: Write, W: Write> Report<'_, O, W> {
+    /// Writes a line for each level as soon as it is known: of those that fail the weakest has the reason. Answers the exit status.
+    pub(crate) fn say_levels<'a>(&mut self) -> Result<u8, HekFault<'a>> {
+        let mut ladder = Ladder::new(self.scene.alloc);
+        let mut waiting: Vec<Rung> = Vec::new(self.scene.alloc);
+        let mut status = HOLDS;
+        for _ in Promise::LEVELS {
+            let Some(rung) = ladder.next(&self.scene)? else {
+                break;
+            };
+            match rung.standing {
+                Standing::Fails => {
+                    for stronger in waiting.iter() {
+                        self.say_level(stronger.promise, Standing::Fails, None)?;
+                    }
+                    waiting.clear();
+                    status = FAILS;
+                }
+                Standing::Unknown => status = worse(status, NOT_KNOWN),
+                Standing::Holds => {
+                    self.say_waiting(&ladder, waiting.as_slice())?;
+                    waiting.clear();
+                    self.say_level(rung.promise, Standing::Holds, None)?;
+                    continue;
                 }
             }
-            Standing::Holds => {
-                write_waiting(alloc, scene, &ladder, waiting.as_slice(), report)?;
-                waiting.clear();
-                report.level(rung.promise, Standing::Holds, None, &scene.log)?;
-            }
+            add(&mut waiting, rung)?;
         }
-    }
-    write_waiting(alloc, scene, &ladder, waiting.as_slice(), report)?;
-    if let (Some(file), Some(Finding::Holds(shown))) = (order_out, ladder.shown()) {
-        write_order(alloc, scene, ladder.held().first().copied(), shown, file)?;
-    }
-    if choice.extent != Extent::First && status == FAILS {
-        let heading = Heading {
-            promise: None,
-            binding: scene.binding,
-            effort: scene.effort,
-        };
-        write_all(
-            alloc,
-            scene,
-            Promise::Serializable,
-            heading,
-            ladder.held(),
-            report,
-        )?;
-    }
-    Ok(status)
-}
-
-/// Adds a rung to those that wait for what holds.
-fn wait(waiting: &mut Vec<Rung>, rung: Rung) -> Result<(), NoMemory> {
-    waiting.push(rung)?;
-    Ok(())
-}
-
-/// Writes that levels fail since a weaker one does.
-fn write_failed<'a, W: Write>(
-    scene: &Scene,
-    waiting: &[Rung],
-    report: &mut Report<'_, W>,
-) -> Result<(), HekFault<'a>> {
-    for rung in waiting {
-        report.level(rung.promise, Standing::Fails, None, &scene.log)?;
-    }
-    Ok(())
-}
-
-/// Writes the lines of levels below which none fails: the one that does with the reason, and those that are unknown.
-fn write_waiting<'a, W: Write>(
-    alloc: Global,
-    scene: &Scene,
-    ladder: &Ladder,
-    waiting: &[Rung],
-    report: &mut Report<'_, W>,
-) -> Result<(), HekFault<'a>> {
-    for rung in waiting {
-        let mut is_told = false;
-        if let (Standing::Fails, Some((level, found))) = (rung.standing, ladder.failed()) {
-            let causes = causes_of(alloc, scene, level, found, false)?;
-            report.level(rung.promise, rung.standing, causes.first(), &scene.log)?;
-            is_told = true;
+        self.say_waiting(&ladder, waiting.as_slice())?;
+        if let (Some(file), Some(shown)) = (self.order_out.as_mut(), ladder.shown()) {
+            write_order(&self.scene, ladder.held().first().copied(), shown, file)?;
         }
-        if !is_told {
-            report.level(rung.promise, rung.standing, None, &scene.log)?;
+        if self.choice.extent != Extent::First && status == FAILS {
+            return self.say_all(None, ladder.held());
         }
+        Ok(status)
     }
-    Ok(())
-}
 
-/// Writes a line for each guarantee of sessions. Answers the exit status.
-pub(crate) fn write_guarantees<'a, W: Write>(
-    alloc: Global,
-    scene: &Scene,
-    report: &mut Report<'_, W>,
-) -> Result<u8, HekFault<'a>> {
-    let mut status = HOLDS;
-    for promise in Promise::GUARANTEES {
-        let found = ask(alloc, scene, promise)?;
-        match &found {
-            Finding::Holds(_) => report.level(promise, Standing::Holds, None, &scene.log)?,
-            Finding::Unknown(_) => {
-                report.level(promise, Standing::Unknown, None, &scene.log)?;
-                if status == HOLDS {
-                    status = NOT_KNOWN;
+    /// Writes the lines of levels below which none fails: the one that does with the reason, and those that are unknown.
+    fn say_waiting<'a>(&mut self, ladder: &Ladder, waiting: &[Rung]) -> Result<(), HekFault<'a>> {
+        for rung in waiting {
+            let causes = match (rung.standing, ladder.failed()) {
+                (Standing::Fails, Some((level, found))) => {
+                    causes_of(&self.scene, level, found, false)?
+                }
+                _ => Vec::new(self.scene.alloc),
+            };
+            self.say_level(rung.promise, rung.standing, causes.first())?;
+        }
+        Ok(())
+    }
+
+    /// Writes a line for each guarantee of sessions. Answers the exit status.
+    pub(crate) fn say_guarantees<'a>(&mut self) -> Result<u8, HekFault<'a>> {
+        let mut status = HOLDS;
+        for promise in Promise::GUARANTEES {
+            let found = ask(&self.scene, promise)?;
+            match &found {
+                Finding::Holds(_) => self.say_level(promise, Standing::Holds, None)?,
+                Finding::Unknown(_) => {
+                    self.say_level(promise, Standing::Unknown, None)?;
+                    status = worse(status, NOT_KNOWN);
+                }
+                Finding::Fails(_) | Finding::Lost(_, _) => {
+                    let causes = causes_of(&self.scene, promise, &found, false)?;
+                    self.say_level(promise, Standing::Fails, causes.first())?;
+                    status = FAILS;
                 }
             }
-            Finding::Fails(_) | Finding::Lost(_, _) => {
-                let causes = causes_of(alloc, scene, promise, &found, false)?;
-                report.level(promise, Standing::Fails, causes.first(), &scene.log)?;
-                status = FAILS;
-            }
         }
+        Ok(status)
     }
-    Ok(status)
 }

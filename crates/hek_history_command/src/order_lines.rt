@@ -2,56 +2,38 @@
 use hek_history::Point;
 use hek_ladder::{Promise, Scene};
 use hek_levels_search::Shown;
-use hek_report::{HekFault, put, send};
+use hek_report::{HekFault, put, send, send_if_many};
 use hek_rules::NoMemory;
-use std::alloc::Global;
 use std::io::Write;
-
-/// How many bytes of lines are written at once.
-const MANY: usize = 1 << 16;
 
 /// Writes the order that was found: the name of each transaction, and of one that reads before it commits two lines, with `begin` and
 /// `commit` after its name.
 pub(crate) fn write_order<'a, O: Write>(
-    alloc: Global,
     scene: &Scene,
     promise: Option<Promise>,
     shown: &Shown,
     out: &mut O,
 ) -> Result<(), HekFault<'a>> {
+    let mut lines = Vec::new(scene.alloc);
     match shown {
-        Shown::Points(points) => write_points(alloc, scene, promise, points.as_slice(), out),
+        Shown::Points(points) => {
+            for point in points.iter() {
+                put_point(scene, promise, *point, &mut lines)?;
+                send_if_many(&mut lines, out)?;
+            }
+        }
         Shown::Sources(certificate) => {
-            let mut lines = Vec::new(alloc);
             for t in certificate.order.iter() {
                 let name = scene.log.name(*t);
                 put(writeln!(lines, "{name}"))?;
-                if lines.len() >= MANY {
-                    send(&mut lines, out)?;
-                }
+                send_if_many(&mut lines, out)?;
             }
-            send(&mut lines, out)
-        }
-    }
-}
-
-fn write_points<'a, O: Write>(
-    alloc: Global,
-    scene: &Scene,
-    promise: Option<Promise>,
-    points: &[Point],
-    out: &mut O,
-) -> Result<(), HekFault<'a>> {
-    let mut lines = Vec::new(alloc);
-    for point in points {
-        put_point(scene, promise, *point, &mut lines)?;
-        if lines.len() >= MANY {
-            send(&mut lines, out)?;
         }
     }
     send(&mut lines, out)
 }
 
+/// Appends the line of a point, if it has one.
 fn put_point(
     scene: &Scene,
     promise: Option<Promise>,

@@ -4,200 +4,141 @@ use crate::counted::Tally;
 use crate::counts::Counts;
 use crate::{json, text};
 use hek_anomalies::Cause;
-use hek_history_log::Log;
-use hek_ladder::{Binding, Promise, Standing};
+use hek_ladder::{Promise, Scene, Standing};
 use hek_levels_search::Progress;
-use hek_report::{HekFault, Lines, Printing, send};
-use std::alloc::Global;
+use hek_report::{HekFault, Lines, Printing, send, send_lines};
 use std::io::Write;
 
-/// What is asked of a log: one level, or whether it is serializable.
+/// What an answer is.
+#[derive(Clone, Copy, PartialEq, Eq)]
+pub(crate) enum Kind {
+    /// On what is asked.
+    Verdict,
+    /// On one of several levels or guarantees.
+    Level,
+    /// One of several anomalies.
+    Anomaly,
+}
+
+/// Something that is said of a log.
 #[derive(Clone, Copy)]
-pub(crate) struct Heading {
-    /// The level, where that is said.
+pub(crate) struct Answer<'a> {
+    pub kind: Kind,
+    /// How what is asked stands; the level at which one of several anomalies is excluded.
+    pub word: &'static str,
+    /// The level or guarantee, where that is said. Otherwise it is whether the log is serializable.
     pub promise: Option<Promise>,
-    pub binding: Binding,
-    pub effort: usize,
+    /// What keeps the log from it, and the level at which its name was found.
+    pub cause: Option<&'a Cause>,
+    pub excluded: Option<Promise>,
+    /// The strongest levels that hold.
+    pub held: &'a [Promise],
+    /// What is counted of the order that was found.
+    pub counts: Option<Counts>,
+    /// How far a search came that gave up.
+    pub progress: Option<Progress>,
 }
 
-/// Where what is known of a log goes.
-#[derive(Drop)]
-pub(crate) struct Report<'o, W> {
-    alloc: Global,
-    pub choice: Choice,
-    pub binding: Binding,
-    out: &'o mut W,
-}
+impl<'a> Answer<'a> {
+    /// An answer with a word alone.
+    pub(crate) fn new(kind: Kind, promise: Option<Promise>, word: &'static str) -> Answer<'a> {
+        Answer {
+            kind,
+            word,
+            promise,
+            cause: None,
+            excluded: None,
+            held: &[],
+            counts: None,
+            progress: None,
+        }
+    }
 
-impl<'o, W: Write> Report<'o, W> {
-    pub(crate) fn new(
-        alloc: Global,
-        choice: Choice,
-        binding: Binding,
-        out: &'o mut W,
-    ) -> Report<'o, W> {
-        Report {
-            alloc,
-            choice,
-            binding,
-            out,
+    /// A verdict on what is asked.
+    pub(crate) fn verdict(promise: Option<Promise>, standing: Standing) -> Answer<'a> {
+        Answer::new(Kind::Verdict, promise, word_of(standing, promise))
+    }
+
+    /// What keeps the log from what is asked.
+    pub(crate) fn failed(
+        promise: Option<Promise>,
+        level: Promise,
+        cause: &'a Cause,
+        held: &'a [Promise],
+    ) -> Answer<'a> {
+        Answer {
+            cause: Some(cause),
+            excluded: Some(level),
+            held,
+            ..Answer::verdict(promise, Standing::Fails)
+        }
+    }
+
+    /// One of several anomalies.
+    pub(crate) fn anomaly(level: Promise, cause: &'a Cause) -> Answer<'a> {
+        Answer {
+            cause: Some(cause),
+            excluded: Some(level),
+            ..Answer::new(Kind::Anomaly, None, level.word())
         }
     }
 }
 
-impl<W: Write> Report<'_, W> {
-    fn is_text(&self) -> bool {
+/// The word of how a level or guarantee stands, or whether a log is serializable.
+fn word_of(standing: Standing, promise: Option<Promise>) -> &'static str {
+    match (standing, promise) {
+        (Standing::Unknown, _) => "unknown",
+        (Standing::Holds, None) => "serializable",
+        (Standing::Fails, None) => "not serializable",
+        (Standing::Holds, Some(Promise::Own)) => "right",
+        (Standing::Fails, Some(Promise::Own)) => "wrong",
+        (Standing::Holds, Some(_)) => "holds",
+        (Standing::Fails, Some(_)) => "fails",
+    }
+}
+
+/// A log that is judged, what is asked of it, and where the answers go, and the order that was found if that is wanted.
+#[derive(Drop)]
+pub(crate) struct Report<'o, O, W> {
+    pub scene: Scene,
+    pub choice: Choice,
+    pub order_out: &'o mut Option<O>,
+    pub out: &'o mut W,
+}
+
+impl<O: Write, W: Write> Report<'_, O, W> {
+    pub(crate) fn is_text(&self) -> bool {
         self.choice.printing == Printing::Text
     }
 
-    /// Writes lines.
-    fn write<'a>(&mut self, mut lines: Vec<u8>) -> Result<(), HekFault<'a>> {
-        send(&mut lines, self.out)
-    }
-
-    /// Writes objects.
-    fn write_objects<'a>(&mut self, mut objects: Lines) -> Result<(), HekFault<'a>> {
-        let mut lines = Vec::new(self.alloc);
-        objects.put_back(&mut lines)?;
-        send(&mut lines, self.out)
-    }
-
-    /// Writes that no transaction is judged.
-    pub(crate) fn nothing<'a>(&mut self) -> Result<(), HekFault<'a>> {
+    /// Writes an answer.
+    pub(crate) fn say<'a>(&mut self, answer: Answer<'_>) -> Result<(), HekFault<'a>> {
         if self.is_text() {
-            let mut lines = Vec::new(self.alloc);
-            text::put_nothing(&mut lines)?;
-            return self.write(lines);
+            let mut lines = Vec::new(self.scene.alloc);
+            text::put_answer(&self.scene, answer, &mut lines)?;
+            return send(&mut lines, self.out);
         }
-        let mut objects = Lines::new(self.alloc);
-        json::put_nothing(self.binding, &mut objects);
-        self.write_objects(objects)
-    }
-
-    /// Writes that what is asked holds.
-    pub(crate) fn holds<'a>(
-        &mut self,
-        heading: Heading,
-        counts: Counts,
-        log: &Log,
-    ) -> Result<(), HekFault<'a>> {
-        if self.is_text() {
-            let mut lines = Vec::new(self.alloc);
-            text::put_holds(heading, counts, log, &mut lines)?;
-            return self.write(lines);
-        }
-        let mut objects = Lines::new(self.alloc);
-        json::put_holds(heading, counts, &mut objects);
-        self.write_objects(objects)
-    }
-
-    /// Writes what keeps the log from what is asked, found at a level, and at which levels it holds.
-    pub(crate) fn fails<'a>(
-        &mut self,
-        heading: Heading,
-        level: Promise,
-        cause: &Cause,
-        held: &[Promise],
-        log: &Log,
-    ) -> Result<(), HekFault<'a>> {
-        if self.is_text() {
-            let mut lines = Vec::new(self.alloc);
-            text::put_fails(self.alloc, heading, cause, log, &mut lines)?;
-            text::put_held(held, &mut lines)?;
-            return self.write(lines);
-        }
-        let mut objects = Lines::new(self.alloc);
-        json::put_fails(self.alloc, heading, level, cause, held, log, &mut objects)?;
-        self.write_objects(objects)
-    }
-
-    /// Writes that nothing is known of what is asked, and at which levels the log holds.
-    pub(crate) fn unknown<'a>(
-        &mut self,
-        heading: Heading,
-        progress: Progress,
-        held: &[Promise],
-    ) -> Result<(), HekFault<'a>> {
-        if self.is_text() {
-            let mut lines = Vec::new(self.alloc);
-            text::put_unknown(heading, progress, &mut lines)?;
-            text::put_held(held, &mut lines)?;
-            return self.write(lines);
-        }
-        let mut objects = Lines::new(self.alloc);
-        json::put_unknown(heading, progress, held, &mut objects);
-        self.write_objects(objects)
+        let mut objects = Lines::new(self.scene.alloc);
+        json::put_answer(&self.scene, answer, &mut objects)?;
+        send_lines(&mut objects, self.out)
     }
 
     /// Writes how a level stands, with what keeps the log from it if that is told.
-    pub(crate) fn level<'a>(
+    pub(crate) fn say_level<'a>(
         &mut self,
         promise: Promise,
         standing: Standing,
         cause: Option<&Cause>,
-        log: &Log,
     ) -> Result<(), HekFault<'a>> {
-        if self.is_text() {
-            let mut lines = Vec::new(self.alloc);
-            text::put_level(self.alloc, promise, standing, cause, log, &mut lines)?;
-            return self.write(lines);
-        }
-        let mut objects = Lines::new(self.alloc);
-        let binding = self.binding;
-        json::put_level(
-            self.alloc,
-            promise,
-            standing,
-            cause,
-            binding,
-            log,
-            &mut objects,
-        )?;
-        self.write_objects(objects)
-    }
-
-    /// Writes an anomaly, unless only their numbers are wanted.
-    pub(crate) fn anomaly<'a>(
-        &mut self,
-        level: Promise,
-        cause: &Cause,
-        log: &Log,
-    ) -> Result<(), HekFault<'a>> {
-        if self.choice.extent == Extent::Counts {
-            return Ok(());
-        }
-        if self.is_text() {
-            let mut lines = Vec::new(self.alloc);
-            text::put_anomaly(self.alloc, level, cause, log, &mut lines)?;
-            return self.write(lines);
-        }
-        let mut objects = Lines::new(self.alloc);
-        json::put_anomaly(self.alloc, level, cause, self.binding, log, &mut objects)?;
-        self.write_objects(objects)
-    }
-
-    /// Writes the first of all anomalies, behind the words of the verdict, unless only their numbers are wanted.
-    pub(crate) fn begin_all<'a>(
-        &mut self,
-        heading: Heading,
-        level: Promise,
-        cause: &Cause,
-        held: &[Promise],
-        log: &Log,
-    ) -> Result<(), HekFault<'a>> {
-        if self.choice.extent == Extent::Counts {
-            return Ok(());
-        }
-        if self.is_text() {
-            return self.fails(heading, level, cause, &[], log);
-        }
-        self.fails(heading, level, cause, held, log)
+        let word = word_of(standing, Some(promise));
+        let answer = Answer::new(Kind::Level, Some(promise), word);
+        self.say(Answer { cause, ..answer })
     }
 
     /// Writes how many anomalies there are of each name, what is said of the rest, and at which levels the whole log holds.
-    pub(crate) fn counts<'a>(
+    pub(crate) fn say_counts<'a>(
         &mut self,
-        heading: Heading,
+        asked: Option<Promise>,
         tally: &mut Tally,
         rest: &'static str,
         held: &[Promise],
@@ -205,13 +146,14 @@ impl<W: Write> Report<'_, W> {
         tally.sort()?;
         if self.is_text() {
             let alone = self.choice.extent == Extent::Counts;
-            let mut lines = Vec::new(self.alloc);
-            text::put_counts(heading, alone, tally, rest, &mut lines)?;
+            let front = alone.then_some(Answer::verdict(asked, Standing::Fails));
+            let mut lines = Vec::new(self.scene.alloc);
+            text::put_counts(front, tally, rest, &mut lines)?;
             text::put_held(held, &mut lines)?;
-            return self.write(lines);
+            return send(&mut lines, self.out);
         }
-        let mut objects = Lines::new(self.alloc);
-        json::put_counts(self.binding, tally, rest, &mut objects);
-        self.write_objects(objects)
+        let mut objects = Lines::new(self.scene.alloc);
+        json::put_counts(self.scene.binding, tally, rest, &mut objects);
+        send_lines(&mut objects, self.out)
     }
 }

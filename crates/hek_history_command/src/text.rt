@@ -1,15 +1,13 @@
 //! Answers as text.
 use crate::counted::Tally;
 use crate::counts::Counts;
-use crate::report::Heading;
+use crate::report::{Answer, Kind};
 use hek_anomalies::{Cause, EdgeKind, Evidence};
-use hek_history_log::Log;
-use hek_history_report::cycle_lines;
-use hek_ladder::{Binding, Promise, Standing};
+use hek_history_report::Teller;
+use hek_ladder::{Binding, Promise, Scene};
 use hek_levels_search::Progress;
 use hek_report::put;
 use hek_rules::NoMemory;
-use std::alloc::Global;
 use std::fmt;
 use std::io::Write;
 
@@ -32,54 +30,73 @@ impl fmt::Display for Counted {
     }
 }
 
-/// The line that no transaction is judged.
-pub(crate) fn put_nothing(lines: &mut Vec<u8>) -> Result<(), NoMemory> {
-    lines.extend_from_slice(b"nothing to judge\n")?;
-    Ok(())
-}
-
-/// The words of a verdict: that what is asked holds.
-fn put_held_front(heading: Heading, counts: Counts, lines: &mut Vec<u8>) -> Result<(), NoMemory> {
-    match heading.promise {
-        None => {
-            let is_elsewhere = matches!(counts.elsewhere, Some(count) if count > 0);
-            let other = if is_elsewhere {
-                " in another order"
-            } else {
-                ""
-            };
-            put(write!(lines, "serializable{other}: "))
-        }
-        Some(Promise::Own) => put(write!(lines, "right: each has what its level promises: ")),
+/// The words that an answer begins with: how what is asked stands, and at which level. `right` and `wrong` say themselves that it is each
+/// transaction's own.
+fn put_front(answer: Answer<'_>, lines: &mut Vec<u8>) -> Result<(), NoMemory> {
+    let word = answer.word;
+    put(write!(lines, "{word}"))?;
+    match answer.promise {
+        None => Ok(()),
+        Some(Promise::Own) if answer.progress.is_none() => Ok(()),
         Some(promise) => {
-            let word = promise.word();
-            put(write!(lines, "holds at {word}: "))
+            let level = promise.word();
+            put(write!(lines, " at {level}"))
         }
     }
 }
 
-/// The line that what is asked holds.
-pub(crate) fn put_holds(
-    heading: Heading,
-    counts: Counts,
-    log: &Log,
+/// The lines of an answer: what is counted, how far a search came, or an anomaly's name and its cycle, and the strongest levels that hold.
+pub(crate) fn put_answer(
+    scene: &Scene,
+    answer: Answer<'_>,
     lines: &mut Vec<u8>,
 ) -> Result<(), NoMemory> {
-    put_held_front(heading, counts, lines)?;
+    put_front(answer, lines)?;
+    if let Some(counts) = answer.counts {
+        put_counted(scene, answer.promise, counts, lines)?;
+    }
+    if let Some(progress) = answer.progress {
+        put_progress(progress, scene.effort, lines)?;
+    }
+    let Some(cause) = answer.cause else {
+        put(writeln!(lines))?;
+        return put_held(answer.held, lines);
+    };
+    let name = cause.anomaly.name();
+    put(writeln!(lines, ": {name}"))?;
+    let teller = Teller {
+        alloc: scene.alloc,
+        log: &scene.log,
+    };
+    teller.put_lines(cause, lines)?;
+    if answer.kind == Kind::Verdict {
+        put_binding(scene.binding, cause, lines)?;
+    }
+    put_held(answer.held, lines)
+}
+
+/// What is counted of the order that was found.
+fn put_counted(
+    scene: &Scene,
+    promise: Option<Promise>,
+    counts: Counts,
+    lines: &mut Vec<u8>,
+) -> Result<(), NoMemory> {
+    if promise == Some(Promise::Own) {
+        put(write!(lines, ": each has what its level promises"))?;
+    }
     let transactions = number_of(counts.transactions, "transaction");
     let reads = number_of(counts.reads, "read");
-    put(write!(lines, "{transactions}, {reads}"))?;
+    put(write!(lines, ": {transactions}, {reads}"))?;
     match counts.elsewhere {
         None => {}
         Some(0) => put(write!(lines, ", in the order of their ends"))?,
         Some(count) => put(write!(lines, ", {count} of them elsewhere than by end time"))?,
     }
-    let binding = heading.binding;
+    let binding = scene.binding;
+    let are_numbered = binding.versions && scene.log.has_versions();
     for (binds, words) in [
-        (
-            binding.versions && log.has_versions(),
-            ", versions by their numbers",
-        ),
+        (are_numbered, ", versions by their numbers"),
         (binding.sessions, ", sessions kept"),
         (binding.real, ", real time kept"),
     ] {
@@ -87,42 +104,22 @@ pub(crate) fn put_holds(
             put(write!(lines, "{words}"))?;
         }
     }
-    put(writeln!(lines))
-}
-
-/// The words of a verdict: that what is asked doesn't hold.
-fn put_failed_front(heading: Heading, lines: &mut Vec<u8>) -> Result<(), NoMemory> {
-    match heading.promise {
-        None => put(write!(lines, "not serializable: ")),
-        Some(Promise::Own) => put(write!(lines, "wrong: ")),
-        Some(promise) => {
-            let word = promise.word();
-            put(write!(lines, "fails at {word}: "))
-        }
-    }
-}
-
-/// The lines of what keeps a log from what is asked: the anomaly's name, and its cycle.
-pub(crate) fn put_fails(
-    alloc: Global,
-    heading: Heading,
-    cause: &Cause,
-    log: &Log,
-    lines: &mut Vec<u8>,
-) -> Result<(), NoMemory> {
-    put_failed_front(heading, lines)?;
-    put_cause(alloc, cause, log, lines)?;
-    put_binding(heading.binding, cause, lines)
-}
-
-/// An anomaly's name, and the lines of its cycle.
-fn put_cause(alloc: Global, cause: &Cause, log: &Log, lines: &mut Vec<u8>) -> Result<(), NoMemory> {
-    let name = cause.anomaly.name();
-    put(writeln!(lines, "{name}"))?;
-    for line in cycle_lines(alloc, log, cause)?.iter() {
-        put(writeln!(lines, "{line}"))?;
-    }
     Ok(())
+}
+
+/// How far a search came.
+fn put_progress(progress: Progress, effort: usize, lines: &mut Vec<u8>) -> Result<(), NoMemory> {
+    let conflicts = number_of(progress.conflicts as u64, "conflict");
+    let repairs = number_of(effort as u64, "repair");
+    let more = effort.saturating_mul(10);
+    put(writeln!(
+        lines,
+        ": after {conflicts} the search has no order, and no proof that there is none"
+    ))?;
+    put(write!(
+        lines,
+        "  it gave up at {repairs} of an order; --effort {more} goes on ten times as far"
+    ))
 }
 
 /// Whether an anomaly rests on what binds, and not on answers alone: on versions, sessions, real time.
@@ -141,26 +138,29 @@ fn rests_on(cause: &Cause) -> [bool; 3] {
     rests
 }
 
-/// The line that says which orders are asked for, if an anomaly rests on that.
+/// The lines that say which orders are asked for, if an anomaly rests on that.
 fn put_binding(binding: Binding, cause: &Cause, lines: &mut Vec<u8>) -> Result<(), NoMemory> {
     let [versions, sessions, real] = rests_on(cause);
-    if binding.versions && versions {
-        put(writeln!(
-            lines,
-            "  in the orders in which the versions of a key come as the log has them; --order any asks for any"
-        ))?;
-    }
-    if binding.real && real {
-        put(writeln!(
-            lines,
-            "  in the orders of real time; --order any asks for any"
-        ))?;
-    }
-    if binding.sessions && sessions {
-        put(writeln!(
-            lines,
-            "  in the orders that keep sessions; --no-sessions asks for any"
-        ))?;
+    for (is_said, orders, option) in [
+        (
+            binding.versions && versions,
+            "the orders in which the versions of a key come as the log has them",
+            "--order any",
+        ),
+        (
+            binding.real && real,
+            "the orders of real time",
+            "--order any",
+        ),
+        (
+            binding.sessions && sessions,
+            "the orders that keep sessions",
+            "--no-sessions",
+        ),
+    ] {
+        if is_said {
+            put(writeln!(lines, "  in {orders}; {option} asks for any"))?;
+        }
     }
     Ok(())
 }
@@ -178,87 +178,18 @@ pub(crate) fn put_held(held: &[Promise], lines: &mut Vec<u8>) -> Result<(), NoMe
     put(writeln!(lines))
 }
 
-/// The lines of a log of which nothing is known.
-pub(crate) fn put_unknown(
-    heading: Heading,
-    progress: Progress,
-    lines: &mut Vec<u8>,
-) -> Result<(), NoMemory> {
-    match heading.promise {
-        None => put(write!(lines, "unknown: "))?,
-        Some(promise) => {
-            let word = promise.word();
-            put(write!(lines, "unknown at {word}: "))?;
-        }
-    }
-    let conflicts = number_of(progress.conflicts as u64, "conflict");
-    put(writeln!(
-        lines,
-        "after {conflicts} the search has no order, and no proof that there is none"
-    ))?;
-    let repairs = number_of(heading.effort as u64, "repair");
-    let more = heading.effort.saturating_mul(10);
-    put(writeln!(
-        lines,
-        "  it gave up at {repairs} of an order; --effort {more} goes on ten times as far"
-    ))
-}
-
-/// The line of a level, with what keeps the log from it below.
-pub(crate) fn put_level(
-    alloc: Global,
-    promise: Promise,
-    standing: Standing,
-    cause: Option<&Cause>,
-    log: &Log,
-    lines: &mut Vec<u8>,
-) -> Result<(), NoMemory> {
-    let word = promise.word();
-    let verb = verb_of(standing);
-    match cause {
-        None => put(writeln!(lines, "{verb} at {word}")),
-        Some(cause) => {
-            put(write!(lines, "{verb} at {word}: "))?;
-            put_cause(alloc, cause, log, lines)
-        }
-    }
-}
-
-/// The word of a standing.
-pub(crate) fn verb_of(standing: Standing) -> &'static str {
-    match standing {
-        Standing::Holds => "holds",
-        Standing::Fails => "fails",
-        Standing::Unknown => "unknown",
-    }
-}
-
-/// The lines of one of several anomalies, with the weakest level that excludes it.
-pub(crate) fn put_anomaly(
-    alloc: Global,
-    level: Promise,
-    cause: &Cause,
-    log: &Log,
-    lines: &mut Vec<u8>,
-) -> Result<(), NoMemory> {
-    let word = level.word();
-    put(write!(lines, "{word}: "))?;
-    put_cause(alloc, cause, log, lines)
-}
-
 /// The line of how many anomalies there are of each name, and of the rest. If it stands alone, the words of the verdict are before it.
 pub(crate) fn put_counts(
-    heading: Heading,
-    alone: bool,
+    front: Option<Answer<'_>>,
     tally: &Tally,
     rest: &str,
     lines: &mut Vec<u8>,
 ) -> Result<(), NoMemory> {
-    if alone {
-        put_failed_front(heading, lines)?;
-    } else {
-        put(write!(lines, "in all: "))?;
+    match front {
+        Some(verdict) => put_front(verdict, lines)?,
+        None => put(write!(lines, "in all"))?,
     }
+    put(write!(lines, ": "))?;
     tally.put_words(lines)?;
     let verb = if rest == "holds" { "" } else { "is " };
     put(writeln!(lines, "; the rest {verb}{rest}"))

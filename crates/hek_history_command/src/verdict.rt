@@ -1,13 +1,11 @@
 //! Whether a log is serializable, or holds at one level.
-use crate::all::write_all;
-use crate::choice::{Choice, Extent};
+use crate::choice::Extent;
 use crate::counts::counts_of;
 use crate::order_lines::write_order;
-use crate::report::{Heading, Report};
-use hek_ladder::{Finding, Ladder, Promise, Scene, Standing, ask, causes_of};
-use hek_levels_search::Progress;
+use crate::report::{Answer, Report};
+use hek_ladder::{Finding, Ladder, Promise, Standing, ask, causes_of};
+use hek_levels_search::{Progress, Shown};
 use hek_report::HekFault;
-use std::alloc::Global;
 use std::io::Write;
 
 /// The exit status of a log that is what is asked, of one that isn't, and of one of which nothing is known.
@@ -17,137 +15,116 @@ pub(crate) const FAILS: u8 = 1;
 
 pub(crate) const NOT_KNOWN: u8 = 3;
 
+/// The status of two: that something fails if it does, or else that something isn't known.
+pub(crate) fn worse(first: u8, second: u8) -> u8 {
+    if first == FAILS || second == FAILS {
+        FAILS
+    } else {
+        first.max(second)
+    }
+}
+
 /// Nothing is known of how far a search came.
 const NOWHERE: Progress = Progress {
     conflicts: 0,
     violations: 0,
 };
 
-/// What is asked.
-fn heading_of(scene: &Scene, promise: Option<Promise>) -> Heading {
-    Heading {
-        promise,
-        binding: scene.binding,
-        effort: scene.effort,
+impl<O: Write, W: Write> Report<'_, O, W> {
+    /// Writes that what is asked holds, and the order that shows it. Answers the exit status.
+    fn say_held<'a>(
+        &mut self,
+        promise: Option<Promise>,
+        shown: &Shown,
+    ) -> Result<u8, HekFault<'a>> {
+        if let Some(file) = self.order_out.as_mut() {
+            write_order(&self.scene, promise, shown, file)?;
+        }
+        let counts = counts_of(&self.scene, shown)?;
+        let mut answer = Answer::verdict(promise, Standing::Holds);
+        answer.counts = Some(counts);
+        if promise.is_none() && counts.elsewhere.unwrap_or(0) > 0 {
+            answer.word = "serializable in another order";
+        }
+        self.say(answer)?;
+        Ok(HOLDS)
     }
-}
 
-/// Writes that what is asked holds, and the order that shows it.
-fn write_holds<'a, W: Write, O: Write>(
-    alloc: Global,
-    scene: &Scene,
-    promise: Option<Promise>,
-    found: &Finding,
-    order_out: &mut Option<O>,
-    report: &mut Report<'_, W>,
-) -> Result<(), HekFault<'a>> {
-    let Finding::Holds(shown) = found else {
-        return Ok(());
-    };
-    if let Some(file) = order_out {
-        write_order(alloc, scene, promise, shown, file)?;
+    /// Writes that nothing is known of what is asked, and at which levels the log holds. Answers the exit status.
+    fn say_unknown<'a>(
+        &mut self,
+        promise: Option<Promise>,
+        progress: Progress,
+        held: &[Promise],
+    ) -> Result<u8, HekFault<'a>> {
+        self.say(Answer {
+            held,
+            progress: Some(progress),
+            ..Answer::verdict(promise, Standing::Unknown)
+        })?;
+        Ok(NOT_KNOWN)
     }
-    let counts = counts_of(alloc, scene, shown)?;
-    report.holds(heading_of(scene, promise), counts, &scene.log)
-}
 
-/// Writes whether a log is serializable; if not, why, and the strongest levels at which it holds. Answers the exit status.
-pub(crate) fn write_verdict<'a, W: Write, O: Write>(
-    alloc: Global,
-    scene: &mut Scene,
-    choice: Choice,
-    order_out: &mut Option<O>,
-    report: &mut Report<'_, W>,
-) -> Result<u8, HekFault<'a>> {
-    let mut ladder = Ladder::new(alloc);
-    for _ in Promise::LEVELS {
-        let _rung = ladder.next(alloc, scene)?;
-        if ladder.held().contains(&Promise::Serializable) {
-            break;
-        }
-    }
-    if ladder.held().contains(&Promise::Serializable) {
-        if let Some(found) = ladder.shown() {
-            write_holds(alloc, scene, None, found, order_out, report)?;
-        }
-        return Ok(HOLDS);
-    }
-    let heading = heading_of(scene, None);
-    let Some((level, found)) = ladder.failed() else {
-        report.unknown(heading, NOWHERE, ladder.held())?;
-        return Ok(NOT_KNOWN);
-    };
-    if choice.extent != Extent::First {
-        write_all(
-            alloc,
-            scene,
-            Promise::Serializable,
-            heading,
-            ladder.held(),
-            report,
-        )?;
-        return Ok(FAILS);
-    }
-    let causes = causes_of(alloc, scene, level, found, false)?;
-    if let Some(cause) = causes.first() {
-        report.fails(heading, level, cause, ladder.held(), &scene.log)?;
-    }
-    Ok(FAILS)
-}
-
-/// Writes whether a log holds at a level, or has a guarantee. Answers the exit status.
-pub(crate) fn write_one<'a, W: Write, O: Write>(
-    alloc: Global,
-    scene: &mut Scene,
-    choice: Choice,
-    promise: Promise,
-    order_out: &mut Option<O>,
-    report: &mut Report<'_, W>,
-) -> Result<u8, HekFault<'a>> {
-    let found = ask(alloc, scene, promise)?;
-    let heading = heading_of(scene, Some(promise));
-    match &found {
-        Finding::Holds(_) => {
-            write_holds(alloc, scene, Some(promise), &found, order_out, report)?;
-            Ok(HOLDS)
-        }
-        Finding::Unknown(progress) => {
-            report.unknown(heading, *progress, &[])?;
-            Ok(NOT_KNOWN)
-        }
-        Finding::Fails(_) | Finding::Lost(_, _) => {
-            if choice.extent == Extent::First {
-                write_fails(alloc, scene, promise, found, heading, report)?;
-            } else {
-                write_all(alloc, scene, promise, heading, &[], report)?;
+    /// Writes what keeps a log from what is asked, as it was found at a level. Answers the exit status.
+    fn say_failed<'a>(
+        &mut self,
+        promise: Option<Promise>,
+        ladder: &Ladder,
+        held: &[Promise],
+    ) -> Result<u8, HekFault<'a>> {
+        if let Some((level, found)) = ladder.failed() {
+            let causes = causes_of(&self.scene, level, found, false)?;
+            if let Some(cause) = causes.first() {
+                self.say(Answer::failed(promise, level, cause, held))?;
             }
-            Ok(FAILS)
         }
+        Ok(FAILS)
     }
-}
 
-/// Writes what keeps a log from a level, by its name at the weakest level that fails with it.
-fn write_fails<'a, W: Write>(
-    alloc: Global,
-    scene: &Scene,
-    promise: Promise,
-    found: Finding,
-    heading: Heading,
-    report: &mut Report<'_, W>,
-) -> Result<(), HekFault<'a>> {
-    let mut ladder = Ladder::below(alloc, promise, found);
-    for _ in Promise::LEVELS {
-        match ladder.next(alloc, scene)? {
-            Some(rung) if rung.standing == Standing::Fails => {}
-            _ => break,
+    /// Writes whether a log is serializable; if not, why, and the strongest levels at which it holds. Answers the exit status.
+    pub(crate) fn say_verdict<'a>(&mut self) -> Result<u8, HekFault<'a>> {
+        let mut ladder = Ladder::new(self.scene.alloc);
+        for _ in Promise::LEVELS {
+            let _rung = ladder.next(&self.scene)?;
+            if ladder.held().contains(&Promise::Serializable) {
+                break;
+            }
+        }
+        if ladder.held().contains(&Promise::Serializable) {
+            if let Some(shown) = ladder.shown() {
+                return self.say_held(None, shown);
+            }
+        }
+        if ladder.failed().is_none() {
+            return self.say_unknown(None, NOWHERE, ladder.held());
+        }
+        if self.choice.extent != Extent::First {
+            return self.say_all(None, ladder.held());
+        }
+        self.say_failed(None, &ladder, ladder.held())
+    }
+
+    /// Writes whether a log holds at a level, or has a guarantee. Answers the exit status.
+    pub(crate) fn say_one<'a>(&mut self, promise: Promise) -> Result<u8, HekFault<'a>> {
+        match ask(&self.scene, promise)? {
+            Finding::Holds(shown) => self.say_held(Some(promise), &shown),
+            Finding::Unknown(progress) => self.say_unknown(Some(promise), progress, &[]),
+            found => self.say_why(promise, found),
         }
     }
-    let Some((level, weakest)) = ladder.failed() else {
-        return Ok(());
-    };
-    let causes = causes_of(alloc, scene, level, weakest, false)?;
-    match causes.first() {
-        Some(cause) => report.fails(heading, level, cause, &[], &scene.log),
-        None => Ok(()),
+
+    /// Writes what keeps a log from a level, by its name at the weakest level that fails with it, or all that does. Answers the exit status.
+    fn say_why<'a>(&mut self, promise: Promise, found: Finding) -> Result<u8, HekFault<'a>> {
+        if self.choice.extent != Extent::First {
+            return self.say_all(Some(promise), &[]);
+        }
+        let mut ladder = Ladder::below(self.scene.alloc, promise, found);
+        for _ in Promise::LEVELS {
+            match ladder.next(&self.scene)? {
+                Some(rung) if rung.standing == Standing::Fails => {}
+                _ => break,
+            }
+        }
+        self.say_failed(Some(promise), &ladder, &[])
     }
 }

@@ -8,9 +8,8 @@ mod cycle;
 mod printing;
 mod together;
 
-pub use anomaly_words::cycle_lines;
+pub use anomaly_words::Teller;
 pub use before::{Before, Side};
-pub use cycle::{put_cycle, put_reads, put_steps};
 pub use printing::{
     put_details, put_members, put_phrase, put_short, put_verdict, put_word, verdict_word,
 };

@@ -1,6 +1,6 @@
 //! Whether the committed transactions of a run can follow one another, and if so in which order, and if not, why not.
 use crate::before::{Before, befores_of, named};
-use hek_anomalies::{Anomaly, Cause};
+use hek_anomalies::Anomaly;
 use hek_history_log::{Log, LogFault, read_log, write_run};
 use hek_ladder::{Binding, Finding, Levels, Promise, Scene, ask, causes_of, order_of};
 use hek_levels_search::Shown;
@@ -68,7 +68,7 @@ fn judged(
     scene: &Scene,
     committed: usize,
 ) -> Result<Together, NoMemory> {
-    let found = ask(alloc, scene, Promise::Serializable)?;
+    let found = ask(scene, Promise::Serializable)?;
     match &found {
         Finding::Holds(shown) => ordered(alloc, schedule, scene, shown, committed),
         Finding::Fails(_) | Finding::Lost(_, _) => refuted(alloc, schedule, scene, &found),
@@ -103,20 +103,11 @@ fn refuted(
     scene: &Scene,
     found: &Finding,
 ) -> Result<Together, NoMemory> {
-    let causes = causes_of(alloc, scene, Promise::Serializable, found, false)?;
-    match causes.first() {
-        Some(cause) => told(alloc, schedule, &scene.log, cause),
-        None => Ok(Together::Unknown),
-    }
-}
-
-fn told(
-    alloc: Global,
-    schedule: &Schedule,
-    log: &Log,
-    cause: &Cause,
-) -> Result<Together, NoMemory> {
-    match befores_of(alloc, schedule, log, cause)? {
+    let causes = causes_of(scene, Promise::Serializable, found, false)?;
+    let Some(cause) = causes.first() else {
+        return Ok(Together::Unknown);
+    };
+    match befores_of(alloc, schedule, &scene.log, cause)? {
         Some(befores) => Ok(Together::NotSerial(cause.anomaly, befores)),
         None => Ok(Together::Unknown),
     }
@@ -124,13 +115,10 @@ fn told(
 
 /// How many commits a transcript has: one of a transaction that never began is in no log.
 fn committed_in(transcript: &Transcript) -> usize {
-    let mut count: usize = 0;
-    for reply in transcript.replies() {
-        if matches!(reply, Reply::Committed) {
-            count = count.saturating_add(1);
-        }
-    }
-    count
+    let replies = transcript.replies().iter();
+    replies
+        .filter(|reply| matches!(reply, Reply::Committed))
+        .count()
 }
 
 /// The log of a run; None if it can't be read again.

@@ -3,11 +3,10 @@ use crate::promise::Promise;
 use crate::scene::Scene;
 use crate::twins::have_both;
 use hek_anomalies::{Anomaly, Cause, Telling, causes_at};
-use hek_levels::{Asked, Place, bare, find_lost};
+use hek_levels::{Asked, Log, Place, bare, find_lost};
 use hek_levels_refutation::{Step, refutes};
 use hek_levels_search::{Progress, Shown, Verdict, judge};
 use hek_rules::NoMemory;
-use std::alloc::Global;
 
 /// What is found of a level.
 #[derive(Drop)]
@@ -21,41 +20,38 @@ pub enum Finding {
 }
 
 /// The rules that are asked for.
-pub(crate) fn rules_asked(
-    alloc: Global,
-    scene: &Scene,
-    promise: Promise,
-) -> Result<Asked, NoMemory> {
+fn rules_asked(scene: &Scene, promise: Promise) -> Result<Asked, NoMemory> {
     match promise {
-        Promise::Own => scene.own_rules(alloc),
+        Promise::Own => scene.own_rules(),
         _ => Ok(Asked::All(promise.rules())),
     }
 }
 
 /// Asks whether a level or guarantee holds.
-pub fn ask(alloc: Global, scene: &Scene, promise: Promise) -> Result<Finding, NoMemory> {
-    let asked = rules_asked(alloc, scene, promise)?;
-    if promise == Promise::ReadUncommitted {
-        if let Some((t, place)) = find_lost(alloc, &scene.seen)? {
-            return Ok(Finding::Lost(t, place));
-        }
-        let turns = bare(alloc, &scene.seen)?;
-        return found(alloc, scene, &asked, &turns);
+pub fn ask(scene: &Scene, promise: Promise) -> Result<Finding, NoMemory> {
+    let asked = rules_asked(scene, promise)?;
+    if promise != Promise::ReadUncommitted {
+        return found(scene, &asked, &scene.seen);
     }
-    found(alloc, scene, &asked, &scene.seen)
+    if let Some((t, place)) = find_lost(scene.alloc, &scene.seen)? {
+        return Ok(Finding::Lost(t, place));
+    }
+    let turns = bare(scene.alloc, &scene.seen)?;
+    found(scene, &asked, &turns)
 }
 
 /// What is found by rules.
-fn found(
-    alloc: Global,
-    scene: &Scene,
-    asked: &Asked,
-    log: &hek_levels::Log,
-) -> Result<Finding, NoMemory> {
-    match judge(alloc, asked, log, scene.guesses.as_slice(), scene.effort)? {
+fn found(scene: &Scene, asked: &Asked, log: &Log) -> Result<Finding, NoMemory> {
+    match judge(
+        scene.alloc,
+        asked,
+        log,
+        scene.guesses.as_slice(),
+        scene.effort,
+    )? {
         Verdict::Holds(shown) => {
             let twins = scene.log.twins();
-            if have_both(alloc, log.transactions.len(), twins, &shown)? {
+            if have_both(scene.alloc, log.transactions.len(), twins, &shown)? {
                 return Ok(Finding::Unknown(Progress {
                     conflicts: 0,
                     violations: 0,
@@ -69,52 +65,44 @@ fn found(
 }
 
 /// Whether steps that show that a stronger level fails show that of another too.
-pub(crate) fn fails_too(
-    alloc: Global,
-    scene: &Scene,
-    promise: Promise,
-    steps: &[Step],
-) -> Result<bool, NoMemory> {
+pub(crate) fn fails_too(scene: &Scene, promise: Promise, steps: &[Step]) -> Result<bool, NoMemory> {
     if promise == Promise::ReadUncommitted {
         return Ok(false);
     }
-    let asked = rules_asked(alloc, scene, promise)?;
-    refutes(alloc, &asked, &scene.seen, steps)
+    let asked = rules_asked(scene, promise)?;
+    refutes(scene.alloc, &asked, &scene.seen, steps)
 }
 
 /// What keeps a log from a level that fails, as it was found.
 pub fn causes_of(
-    alloc: Global,
     scene: &Scene,
     promise: Promise,
     finding: &Finding,
     all: bool,
 ) -> Result<Vec<Cause>, NoMemory> {
-    let asked = rules_asked(alloc, scene, promise)?;
-    let (steps, lost) = match finding {
-        Finding::Fails(steps) => (steps.as_slice(), None),
-        Finding::Lost(t, place) => (&[] as &[Step], Some((*t, *place))),
-        Finding::Holds(_) | Finding::Unknown(_) => (&[] as &[Step], None),
-    };
-    if promise == Promise::ReadUncommitted && lost.is_none() {
-        let turns = bare(alloc, &scene.seen)?;
-        return told(alloc, scene, &asked, &turns, steps, lost, all);
+    let asked = rules_asked(scene, promise)?;
+    if promise == Promise::ReadUncommitted && !matches!(finding, Finding::Lost(_, _)) {
+        let turns = bare(scene.alloc, &scene.seen)?;
+        return told(scene, &asked, &turns, finding, all);
     }
-    let mut causes = told(alloc, scene, &asked, &scene.seen, steps, lost, all)?;
+    let mut causes = told(scene, &asked, &scene.seen, finding, all)?;
     name_by_guarantee(promise, &mut causes);
     Ok(causes)
 }
 
 /// What is told of a log.
 fn told(
-    alloc: Global,
     scene: &Scene,
     asked: &Asked,
-    log: &hek_levels::Log,
-    steps: &[Step],
-    lost: Option<(usize, Place)>,
+    log: &Log,
+    finding: &Finding,
     all: bool,
 ) -> Result<Vec<Cause>, NoMemory> {
+    let (steps, lost) = match finding {
+        Finding::Fails(steps) => (steps.as_slice(), None),
+        Finding::Lost(t, place) => (&[] as &[Step], Some((*t, *place))),
+        Finding::Holds(_) | Finding::Unknown(_) => (&[] as &[Step], None),
+    };
     let telling = Telling {
         history: &scene.log.history,
         log,
@@ -123,24 +111,17 @@ fn told(
         steps,
         lost,
     };
-    causes_at(alloc, telling, all)
-}
-
-/// What is broken where a guarantee of sessions is, and steps alone show that.
-fn broken_by(promise: Promise) -> Option<Anomaly> {
-    match promise {
-        Promise::MonotonicReads => Some(Anomaly::ReadsGoBack),
-        Promise::ReadYourWrites => Some(Anomaly::OwnWriteMissed),
-        Promise::MonotonicWrites => Some(Anomaly::WritesApart),
-        Promise::WritesFollowReads => Some(Anomaly::CauseMissed),
-        _ => None,
-    }
+    causes_at(scene.alloc, telling, all)
 }
 
 /// Names what steps alone show by the guarantee that is broken.
 fn name_by_guarantee(promise: Promise, causes: &mut Vec<Cause>) {
-    let Some(anomaly) = broken_by(promise) else {
-        return;
+    let anomaly = match promise {
+        Promise::MonotonicReads => Anomaly::ReadsGoBack,
+        Promise::ReadYourWrites => Anomaly::OwnWriteMissed,
+        Promise::MonotonicWrites => Anomaly::WritesApart,
+        Promise::WritesFollowReads => Anomaly::CauseMissed,
+        _ => return,
     };
     for cause in causes.iter_mut() {
         if cause.steps > 0 {

@@ -71,10 +71,7 @@ fn knows_versions(log: &Log) -> bool {
 
 /// Whether a transaction has committed, and has no end.
 fn lacks_end(transaction: &Transaction) -> bool {
-    match transaction.status {
-        Status::Committed => transaction.end.is_none(),
-        Status::Aborted | Status::Unknown => false,
-    }
+    transaction.status == Status::Committed && transaction.end.is_none()
 }
 
 /// Whether a log has a time of some transaction.

@@ -44,10 +44,10 @@ fn place_of(t: usize) -> u64 {
     (t as u64) << 20
 }
 
-fn at_point(place: u64) -> Hint {
+fn at_point(commit: u64) -> Hint {
     Hint {
-        begin: place,
-        commit: place,
+        begin: commit,
+        commit,
     }
 }
 
@@ -75,13 +75,9 @@ fn by_times(alloc: Global, history: &History) -> Result<Option<Vec<Hint>>, NoMem
 
 /// Whether all who committed have an end, or were answered at a time.
 fn have_all(history: &History, ends: bool) -> bool {
-    for transaction in &history.transactions {
-        let time = if ends {
-            transaction.end
-        } else {
-            transaction.answered
-        };
-        if transaction.status == Status::Committed && time.is_none() {
+    for one in &history.transactions {
+        let time = if ends { one.end } else { one.answered };
+        if one.status == Status::Committed && time.is_none() {
             return false;
         }
     }
@@ -116,7 +112,7 @@ fn by_names(alloc: Global, log: &Log) -> Result<Option<Vec<Hint>>, NoMemory> {
     Ok(Some(hints))
 }
 
-/// By sessions: the transactions of each evenly over the log.
+/// By sessions: the transactions of each evenly over the log, each as far as its place is among those of its session.
 fn by_sessions(alloc: Global, log: &Log) -> Result<Vec<Hint>, NoMemory> {
     let mut counts = HashMap::new(alloc);
     for t in 0..log.history.transactions.len() {
@@ -133,19 +129,14 @@ fn by_sessions(alloc: Global, log: &Log) -> Result<Vec<Hint>, NoMemory> {
             let count = counts.get(&turn.session).copied().unwrap_or(1u64);
             let before = passed.get(&turn.session).copied().unwrap_or(0u64);
             let _before = passed.insert(turn.session, before.saturating_add(1))?;
-            place = part_of(before, count);
+            place = before
+                .saturating_mul(1 << 32)
+                .checked_div(count)
+                .unwrap_or(0);
         }
         hints.push(at_point(place))?;
     }
     Ok(hints)
-}
-
-/// How far the first number is towards the second.
-fn part_of(before: u64, count: u64) -> u64 {
-    match before.saturating_mul(1 << 32).checked_div(count) {
-        Some(place) => place,
-        None => 0,
-    }
 }
 
 /// The turn of each transaction in its session.

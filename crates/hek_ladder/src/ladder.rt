@@ -3,6 +3,7 @@
 use crate::asking::{Finding, ask, fails_too};
 use crate::promise::Promise;
 use crate::scene::Scene;
+use hek_levels_search::Shown;
 use hek_rules::NoMemory;
 use std::alloc::Global;
 
@@ -30,7 +31,7 @@ pub struct Ladder {
     /// The strongest levels that hold.
     held: Vec<Promise>,
     /// What shows that the first of them holds.
-    shown: Option<Finding>,
+    shown: Option<Shown>,
 }
 
 impl Ladder {
@@ -46,18 +47,11 @@ impl Ladder {
 
     /// A level is known to fail, and those that it implies are asked next.
     pub fn below(alloc: Global, promise: Promise, found: Finding) -> Ladder {
-        let mut next = Promise::LEVELS.len();
-        for (place, one) in Promise::LEVELS.iter().enumerate() {
-            if *one == promise {
-                next = place.saturating_add(1);
-            }
-        }
-        Ladder {
-            next,
-            failed: Some((promise, found)),
-            held: Vec::new(alloc),
-            shown: None,
-        }
+        let mut ladder = Ladder::new(alloc);
+        let place = Promise::LEVELS.iter().position(|one| *one == promise);
+        ladder.next = place.map_or(Promise::LEVELS.len(), |place| place.saturating_add(1));
+        ladder.failed = Some((promise, found));
+        ladder
     }
 
     /// The weakest level that is known to fail, with what shows that.
@@ -74,23 +68,21 @@ impl Ladder {
     }
 
     /// What shows that the strongest level holds that does.
-    pub fn shown(&self) -> Option<&Finding> {
+    pub fn shown(&self) -> Option<&Shown> {
         self.shown.as_ref()
     }
 
     /// How the next level stands; None, if all were asked.
-    pub fn next(&mut self, alloc: Global, scene: &Scene) -> Result<Option<Rung>, NoMemory> {
+    pub fn next(&mut self, scene: &Scene) -> Result<Option<Rung>, NoMemory> {
         let Some(promise) = Promise::LEVELS.get(self.next).copied() else {
             return Ok(None);
         };
         self.next = self.next.saturating_add(1);
-        if self.is_implied(promise) {
-            return Ok(Some(Rung {
-                promise,
-                standing: Standing::Holds,
-            }));
-        }
-        let standing = self.find(alloc, scene, promise)?;
+        let standing = if self.is_implied(promise) {
+            Standing::Holds
+        } else {
+            self.find(scene, promise)?
+        };
         Ok(Some(Rung { promise, standing }))
     }
 
@@ -100,16 +92,11 @@ impl Ladder {
     }
 
     /// Whether the steps of a stronger level show that another fails too.
-    fn has_failed(
-        &mut self,
-        alloc: Global,
-        scene: &Scene,
-        promise: Promise,
-    ) -> Result<bool, NoMemory> {
+    fn has_failed(&mut self, scene: &Scene, promise: Promise) -> Result<bool, NoMemory> {
         let Some((_, Finding::Fails(steps))) = &self.failed else {
             return Ok(false);
         };
-        let fails = fails_too(alloc, scene, promise, steps.as_slice())?;
+        let fails = fails_too(scene, promise, steps.as_slice())?;
         if fails {
             if let Some(failed) = &mut self.failed {
                 failed.0 = promise;
@@ -119,21 +106,15 @@ impl Ladder {
     }
 
     /// Finds how a level stands.
-    fn find(
-        &mut self,
-        alloc: Global,
-        scene: &Scene,
-        promise: Promise,
-    ) -> Result<Standing, NoMemory> {
-        if self.has_failed(alloc, scene, promise)? {
+    fn find(&mut self, scene: &Scene, promise: Promise) -> Result<Standing, NoMemory> {
+        if self.has_failed(scene, promise)? {
             return Ok(Standing::Fails);
         }
-        let found = ask(alloc, scene, promise)?;
-        match found {
+        match ask(scene, promise)? {
             Finding::Holds(shown) => {
                 self.held.push(promise)?;
                 if self.shown.is_none() {
-                    self.shown = Some(Finding::Holds(shown));
+                    self.shown = Some(shown);
                 }
                 Ok(Standing::Holds)
             }

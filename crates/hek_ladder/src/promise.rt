@@ -2,7 +2,7 @@
 use hek_levels::{Guarantees, Level, Rules};
 
 /// A level, or a guarantee of sessions.
-#[derive(Clone, Copy, Debug, PartialEq, Eq)]
+#[derive(Clone, Copy, PartialEq, Eq)]
 pub enum Promise {
     Serializable,
     Snapshot,
@@ -122,11 +122,18 @@ impl Promise {
             Promise::ReadAtomic => Level::ReadAtomic.rules(),
             Promise::MonotonicView => Level::MonotonicView.rules(),
             Promise::ReadCommitted => Level::ReadCommitted.rules(),
-            Promise::MonotonicReads => rules_for(true, false, false, false),
-            Promise::ReadYourWrites => rules_for(false, true, false, false),
-            Promise::MonotonicWrites => rules_for(false, false, true, false),
-            Promise::WritesFollowReads => rules_for(false, false, false, true),
-            Promise::AllGuarantees => rules_for(true, true, true, true),
+            _ => self.guarantees().rules(),
+        }
+    }
+
+    /// The guarantees that it is of.
+    fn guarantees(self) -> Guarantees {
+        let all = self == Promise::AllGuarantees;
+        Guarantees {
+            monotonic_reads: all || self == Promise::MonotonicReads,
+            read_your_writes: all || self == Promise::ReadYourWrites,
+            monotonic_writes: all || self == Promise::MonotonicWrites,
+            writes_follow_reads: all || self == Promise::WritesFollowReads,
         }
     }
 
@@ -139,15 +146,4 @@ impl Promise {
     pub fn implies(self, weaker: Promise) -> bool {
         !matches!((self, weaker), (Promise::ParallelSnapshot, Promise::Prefix))
     }
-}
-
-/// The rules of these guarantees together.
-fn rules_for(reads: bool, own: bool, writes: bool, follow: bool) -> Rules {
-    Guarantees {
-        monotonic_reads: reads,
-        read_your_writes: own,
-        monotonic_writes: writes,
-        writes_follow_reads: follow,
-    }
-    .rules()
 }

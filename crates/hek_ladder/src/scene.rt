@@ -25,6 +25,7 @@ pub enum Levels {
 /// A log with its names, and the same as levels see it.
 #[derive(Drop)]
 pub struct Scene {
+    pub alloc: Global,
     pub log: Log,
     pub seen: hek_levels::Log,
     pub lanes: Lanes,
@@ -61,6 +62,7 @@ impl Scene {
         let seen = log_of(alloc, &log.history, turns.as_slice())?;
         let guesses = guesses_of(alloc, &log)?;
         Ok(Scene {
+            alloc,
             log,
             seen,
             lanes,
@@ -71,17 +73,16 @@ impl Scene {
     }
 
     /// The log as levels see it is made anew, after its history was changed.
-    pub fn renew(&mut self, alloc: Global) -> Result<(), NoMemory> {
-        let mut lanes = Lanes::new(alloc);
-        let turns = turns_of(alloc, &self.log, self.binding, &mut lanes)?;
-        self.seen = log_of(alloc, &self.log.history, turns.as_slice())?;
-        self.lanes = lanes;
+    pub fn renew(&mut self) -> Result<(), NoMemory> {
+        self.lanes = Lanes::new(self.alloc);
+        let turns = turns_of(self.alloc, &self.log, self.binding, &mut self.lanes)?;
+        self.seen = log_of(self.alloc, &self.log.history, turns.as_slice())?;
         Ok(())
     }
 
     /// The rules of each transaction at its own level.
-    pub(crate) fn own_rules(&self, alloc: Global) -> Result<Asked, NoMemory> {
-        let mut list = Vec::new(alloc);
+    pub(crate) fn own_rules(&self) -> Result<Asked, NoMemory> {
+        let mut list = Vec::new(self.alloc);
         for transaction in &self.log.history.transactions {
             list.push(rules_at(transaction.level))?;
         }
