@@ -1,5 +1,5 @@
 //! The operations of a transaction.
-ghost use Rattle.std.specs.Prelude.{◌≡◌, ◌<◌, ◌≤◌, ◌^◌, ℕ, List, [], ◌∷◌, ◌++◌, All, Some, Ok, Option, IsOkAnd, map, codes, false};
+ghost use Rattle.std.specs.Prelude.{◌≡◌, ◌<◌, ◌≤◌, ◌^◌, ℕ, List, [], ◌∷◌, ◌++◌, All, Some, Ok, Option, IsOkAnd, length, map, codes, false};
 ghost use Rattle.std.specs.Prelude as prelude;
 ghost use Rattle.json.specs.Json.{Json, boolean, string};
 ghost use Rattle.json.specs.Find.{get};
@@ -176,11 +176,27 @@ fn parts_in<'v, 'a>(item: &'v Value<'a>) -> Result<(Kind, &'v [Value<'a>]), Misf
     Ok((kind, without_facts(kind, parts)))
 }
 
+/// How many parts an operation of a kind has without what is known beside it.
+fn plain_count(kind: Kind) -> usize
+    ensures { (op : SpecOperation) → kind ≡ kind_of op → result ≡ length (parts_of op) }
+{
+    match kind {
+        Kind::Read | Kind::Write | Kind::Delete | Kind::Scan => 3,
+        Kind::Insert | Kind::Update | Kind::Range => 4,
+    }
+}
+
 /// The parts of an operation without the object that a write may have at its end.
-fn without_facts<'v, 'a>(kind: Kind, parts: &'v [Value<'a>]) -> &'v [Value<'a>] {
+fn without_facts<'v, 'a>(kind: Kind, parts: &'v [Value<'a>]) -> &'v [Value<'a>]
+    ensures { (op : SpecOperation) → kind ≡ kind_of op → map value_view parts.now ≡ parts_of op
+        → map value_view result.now ≡ parts_of op }
+{
     let is_write = has_answer(kind) || kind == Kind::Write;
+    if parts.len() == plain_count(kind) || !is_write {
+        return parts;
+    }
     match parts {
-        [others @ .., Value::Object(_)] if is_write => others,
+        [others @ .., Value::Object(_)] => others,
         _ => parts,
     }
 }
