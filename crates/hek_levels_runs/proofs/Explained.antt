@@ -2,7 +2,7 @@
 use Rattle.std.proofs.Common.{◌≡◌, ℕ, suc, ◌<◌, Bool, true, false, List, [], ◌∷◌, Option, Some, None, refl, sym, ap, ◌∙◌, subst, inl, inr, take, arith}
 use Rattle.std.proofs.lemmas.Bool.{cases_order}
 use Rattle.std.specs.Global.{Vec}
-use Rattle.std.specs.Prelude.{slice_get, ◌&&◌}
+use Rattle.std.specs.Prelude.{◌&&◌}
 use Rattle.std.specs.List.{list_any}
 use Rattle.hek_rules.specs.Listing.{value_of}
 use Rattle.hek_history.specs.declared.history.History.{History}
@@ -25,9 +25,9 @@ use Rattle.hek_levels.specs.declared.rules.Level.TheVariants as level
 use Rattle.hek_levels.specs.declared.certificate.Writer.{Writer}
 use Rattle.hek_levels.specs.declared.certificate.Writer.TheVariants as writer
 use Rattle.hek_levels.specs.Logs.{meets, meets_in, turns_of, is_before_turn, is_seen_turn, is_kept, is_earlier, read_at, is_possible}
-use Rattle.hek_levels.specs.Seen.{Explanation, TakesPlace, rank, IsBefore, ReadsFrom, IsOverwritten, Precedes, IsLinked, SeesFirst, Shows, SeesBy, Sees, IsOrdered}
+use Rattle.hek_levels.specs.Seen.{Explanation, TakesPlace, rank, IsBefore, ReadsFrom, IsOverwritten, Precedes, SeesFirst, Shows, SeesBy, Sees, IsOrdered}
 use Rattle.hek_levels.specs.Explanations.{IsSource, Explains}
-use Rattle.hek_levels.specs.Levels.{rules_of, asked_of}
+use Rattle.hek_levels.specs.Levels.{rules_of}
 use Rattle.hek_levels.specs.Points.{commits_of}
 use Rattle.hek_levels.proofs.Earlier.{seen-earlier, shows-earlier}
 use Rattle.hek_levels.proofs.Turned.{any-at, at-any}

@@ -7,7 +7,6 @@ use Rattle.std.specs.Global.{Vec}
 use Rattle.hek_rules.specs.Listing.{value_of}
 use Rattle.hek_history.specs.declared.history.History.{History}
 use Rattle.hek_history.specs.declared.history.Transaction.{Transaction}
-use Rattle.hek_history.specs.declared.history.Operation.{Operation}
 use Rattle.hek_history.specs.declared.history.Status.{Status}
 use Rattle.hek_history.specs.declared.history.Status.TheVariants as status
 use Rattle.hek_history.specs.Answers.{after, last_change}
@@ -18,14 +17,13 @@ use Rattle.hek_levels.specs.declared.log.Log.{Log}
 use Rattle.hek_levels.specs.declared.log.Turn.{Turn}
 use Rattle.hek_levels.specs.declared.log.Read.{Read}
 use Rattle.hek_levels.specs.declared.log.Scan.{Scan}
-use Rattle.hek_levels.specs.declared.log.Need.{Need}
 use Rattle.hek_levels.specs.declared.log.Place.{Place}
 use Rattle.hek_levels.specs.declared.log.Place.TheVariants as place
 use Rattle.hek_levels.specs.declared.log.Transaction.{Transaction as TheTransaction}
 use Rattle.hek_levels.specs.declared.certificate.Writer.TheVariants as writer
 use Rattle.hek_levels.specs.Logs as log
-use Rattle.hek_history_levels.specs.Changes.{left_of, left_by}
-use Rattle.hek_history_levels.specs.Reads.{IsRead, read_of, HasRead}
+use Rattle.hek_history_levels.specs.Changes.{left_by}
+use Rattle.hek_history_levels.specs.Reads.{IsRead, read_of}
 use Rattle.hek_history_levels.specs.Fits.{AreFitting}
 use Rattle.hek_history_levels.specs.Steps as steps
 use Rattle.hek_history_levels.specs.Steps.{turns_at, IsSeen, IsLogOf}

@@ -1,5 +1,5 @@
 -- What answers that are right need of keys that their transaction had not changed is met by the rows.
-use Rattle.std.proofs.Common.{◌≡◌, ◌==◌, ◌<◌, ℕ, zero, suc, Bool, true, false, cond, Vec, Global, List, [], ◌∷◌, Option, Some, None, refl, sym, ap, ◌∙◌, subst, inl, inr, take, arith}
+use Rattle.std.proofs.Common.{◌≡◌, ◌==◌, ◌<◌, ℕ, zero, suc, Bool, true, false, cond, List, [], ◌∷◌, Option, Some, None, refl, sym, ap, ◌∙◌, subst, inl, inr, take, arith}
 use Rattle.std.proofs.lemmas.Bool.{cases_Bool, eqb-true, eq-eqb}
 use Rattle.std.proofs.lemmas.Option.{same_Some}
 use Rattle.std.specs.Prelude.{not, is_some, slice_get}
@@ -7,13 +7,13 @@ use Rattle.hek_rules.specs.Listing.{value_of}
 use Rattle.hek_history.specs.declared.history.Operation.{Operation}
 use Rattle.hek_history.specs.declared.history.Operation.TheVariants.{Read, Put, Insert, Update, Delete, Scan}
 use Rattle.hek_history.specs.declared.history.Scope.{Scope}
-use Rattle.hek_history.specs.Answers.{key_of, covers, same_found, fits, last_change, lay_all, tells, IsByKey, AreRight}
+use Rattle.hek_history.specs.Answers.{covers, same_found, last_change, lay_all, tells, IsByKey, AreRight}
 use Rattle.hek_history.proofs.Rows.{value_of-lay_all}
 use Rattle.hek_levels.specs.declared.log.Need.{Need}
 use Rattle.hek_levels.specs.declared.log.Need.TheVariants.{Absent, Present, Value}
 use Rattle.hek_levels.specs.Logs.{meets}
 use Rattle.hek_history_levels.specs.Changes.{left_by}
-use Rattle.hek_history_levels.specs.Reads.{need_of, need_at, IsPaired, Says, IsRead}
+use Rattle.hek_history_levels.specs.Reads.{need_of, Says, IsRead}
 use Rattle.hek_levels_runs.proofs.Left.{after-none}
 
 -- ---- needs that answers tell
