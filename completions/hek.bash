@@ -1,72 +1,68 @@
-# Completions of hek for bash.
-# tools/completions writes this file. Read it with `source`, or put it into
+# Completions of hek for bash, as `hek completions bash` prints them. Read them with `source`, or put them into
 # ~/.local/share/bash-completion/completions under the name hek.
 _hek() {
     local word=${COMP_WORDS[COMP_CWORD]} before=${COMP_WORDS[COMP_CWORD - 1]} command=${COMP_WORDS[1]} words="" files=""
     COMPREPLY=()
-    if [ "$COMP_CWORD" -eq 1 ]; then
-        words="run debug page permute check history drive threads word release asm dis completions man help --help --version"
-        mapfile -t COMPREPLY < <(compgen -W "$words" -- "$word")
-        return
-    fi
     # bash parts a word at `=`
     if [ "$word" = "=" ]; then
         before="$before=" word=""
     elif [ "$before" = "=" ]; then
         before="${COMP_WORDS[COMP_CWORD - 2]}="
     fi
+    [ "$COMP_CWORD" -eq 1 ] && command="" before=hek
     case "$command $before" in
-    "help help") words="run debug page permute check history drive threads word release asm dis completions man" ;;
-    "completions completions") words="bash zsh fish words" ;;
+    " hek") words="run debug page permute check history drive threads word release asm dis completions man help --help --version" ;;
+    "help help") words="run debug page permute check history drive threads word release asm dis completions man " ;;
     "run --explain=") words="always never" ;;
     "run --color=") words="always never auto" ;;
-    "run --state-at") return ;;
+    "run --state-at" | "run --state-at=") return ;;
     "run --why=") words="reasons rules" ;;
-    "run --level") words="serializable repeatable snapshot" ;;
+    "run --level" | "run --level=") words="serializable repeatable snapshot" ;;
     "debug --explain=") words="always never" ;;
     "debug --color=") words="always never auto" ;;
-    "debug --level") words="serializable repeatable snapshot" ;;
+    "debug --level" | "debug --level=") words="serializable repeatable snapshot" ;;
     "page --explain=") words="always never" ;;
-    "page --level") words="serializable repeatable snapshot" ;;
+    "page --level" | "page --level=") words="serializable repeatable snapshot" ;;
     "page --output" | "page -o") compopt -o default; return ;;
-    "page --from") return ;;
-    "page --to") return ;;
-    "page --title") return ;;
-    "page --lesson") return ;;
-    "page --previous") return ;;
-    "page --next") return ;;
-    "page --grain") words="move split event" ;;
-    "page --limit") return ;;
+    "page --from" | "page --from=") return ;;
+    "page --to" | "page --to=") return ;;
+    "page --title" | "page --title=") return ;;
+    "page --lesson" | "page --lesson=") return ;;
+    "page --previous" | "page --previous=") return ;;
+    "page --next" | "page --next=") return ;;
+    "page --grain" | "page --grain=") words="move split event" ;;
+    "page --limit" | "page --limit=") return ;;
     "permute --explain=") words="always never" ;;
-    "permute --level") words="serializable repeatable snapshot" ;;
-    "permute --grain") words="move split event" ;;
-    "permute --limit") return ;;
-    "permute --part") return ;;
-    "permute --jobs") return ;;
-    "permute --order") return ;;
-    "permute --find") return ;;
+    "permute --level" | "permute --level=") words="serializable repeatable snapshot" ;;
+    "permute --grain" | "permute --grain=") words="move split event" ;;
+    "permute --limit" | "permute --limit=") return ;;
+    "permute --part" | "permute --part=") return ;;
+    "permute --jobs" | "permute --jobs=") return ;;
+    "permute --order" | "permute --order=") return ;;
+    "permute --find" | "permute --find=") return ;;
     "check --explain=") words="always never" ;;
-    "check --level") words="serializable repeatable snapshot" ;;
+    "check --level" | "check --level=") words="serializable repeatable snapshot" ;;
     "history --explain=") words="always never" ;;
-    "history --level") words="serializable repeatable snapshot" ;;
-    "history --order") words="any versions commit real" ;;
-    "history --effort") return ;;
+    "history --level" | "history --level=") words="serializable snapshot parallel-snapshot causal read-atomic monotonic-view read-committed read-uncommitted monotonic-reads read-your-writes monotonic-writes writes-follow-reads guarantees repeatable" ;;
+    "history --order" | "history --order=") words="any versions commit real" ;;
+    "history --effort" | "history --effort=") return ;;
     "history --all=") words="each counts" ;;
-    "history --order-out") compopt -o default; return ;;
+    "history --order-out" | "history --order-out=") compopt -o default; return ;;
     "drive --explain=") words="always never" ;;
     "drive --color=") words="always never auto" ;;
     "drive --why=") words="reasons rules" ;;
-    "drive --level") words="serializable repeatable snapshot" ;;
+    "drive --level" | "drive --level=") words="serializable repeatable snapshot" ;;
     "threads --explain=") words="always never" ;;
-    "threads --turns") return ;;
-    "threads --repeat") return ;;
-    "threads --seed") return ;;
-    "threads --level") words="serializable repeatable snapshot" ;;
-    "word --clock") return ;;
-    "word --txns") return ;;
-    "word --readers") return ;;
+    "threads --turns" | "threads --turns=") return ;;
+    "threads --repeat" | "threads --repeat=") return ;;
+    "threads --seed" | "threads --seed=") return ;;
+    "threads --level" | "threads --level=") words="serializable repeatable snapshot" ;;
+    "word --clock" | "word --clock=") return ;;
+    "word --txns" | "word --txns=") return ;;
+    "word --readers" | "word --readers=") return ;;
     "asm --explain=") words="always never" ;;
     "dis --explain=") words="always never" ;;
+    "completions completions") words="bash zsh fish words" ;;
     esac
     if [ -n "$words" ]; then
         mapfile -t COMPREPLY < <(compgen -W "$words" -- "$word")

@@ -1,6 +1,10 @@
-# Completions of hek for fish.
-# tools/completions writes this file. Put it into ~/.config/fish/completions.
+# Completions of hek for fish, as `hek completions fish` prints them. Put them into ~/.config/fish/completions under the
+# name hek.fish.
 complete -c hek -f
+complete -c hek -n __fish_use_subcommand -a help -d 'Print this message or the help of the given subcommand(s)'
+complete -c hek -n __fish_use_subcommand -s h -l help -d 'Print help'
+complete -c hek -n __fish_use_subcommand -s V -l version -d 'Print version'
+complete -c hek -n '__fish_seen_subcommand_from help' -a 'run debug page permute check history drive threads word release asm dis completions man '
 complete -c hek -n __fish_use_subcommand -a run -d 'Runs the steps of a schedule, and prints each with its reply'
 complete -c hek -n __fish_use_subcommand -a debug -d 'Runs a schedule step by step, to breakpoints and watches, and back'
 complete -c hek -n __fish_use_subcommand -a page -d 'Writes a schedule\'s run, or a log, as a page for a browser'
@@ -15,10 +19,6 @@ complete -c hek -n __fish_use_subcommand -a asm -d 'Makes the image of a schedul
 complete -c hek -n __fish_use_subcommand -a dis -d 'Prints the canonical text of a schedule'
 complete -c hek -n __fish_use_subcommand -a completions -d 'Prints what a shell reads to complete the words of a command line'
 complete -c hek -n __fish_use_subcommand -a man -d 'Prints the manual page'
-complete -c hek -n __fish_use_subcommand -a help -d 'Print this message or the help of the given subcommand(s)'
-complete -c hek -n __fish_use_subcommand -s h -l help -d 'Print help'
-complete -c hek -n __fish_use_subcommand -s V -l version -d 'Print version'
-complete -c hek -n '__fish_seen_subcommand_from help' -a 'run debug page permute check history drive threads word release asm dis completions man'
 complete -c hek -n '__fish_seen_subcommand_from run' -l text -d 'FILE is a schedule text, whatever it holds'
 complete -c hek -n '__fish_seen_subcommand_from run' -l image -d 'FILE is a schedule image, whatever it holds'
 complete -c hek -n '__fish_seen_subcommand_from run' -l explain -a 'always never' -d 'says of each fault what is wrong, what is wanted and what is meant, as at a terminal; =never only names it'
@@ -46,7 +46,7 @@ complete -c hek -n '__fish_seen_subcommand_from page' -l text -d 'FILE is a sche
 complete -c hek -n '__fish_seen_subcommand_from page' -l image -d 'FILE is a schedule image, whatever it holds'
 complete -c hek -n '__fish_seen_subcommand_from page' -l explain -a 'always never' -d 'says of each fault what is wrong, what is wanted and what is meant, as at a terminal; =never only names it'
 complete -c hek -n '__fish_seen_subcommand_from page' -l level -x -a 'serializable repeatable snapshot' -d 'judges or runs all transactions as serializable, repeatable or snapshot'
-complete -c hek -n '__fish_seen_subcommand_from page' -l auto -d 'shows only the reads and writes of FILE, which may be a program, and begins and ends each transaction by itself'
+complete -c hek -n '__fish_seen_subcommand_from page' -l auto -d 'runs only the reads and writes of FILE, which may be a program, and begins and ends each transaction by itself'
 complete -c hek -n '__fish_seen_subcommand_from page' -s o -l output -r -F -d 'writes the page to a file; - is standard output, also where that is a terminal'
 complete -c hek -n '__fish_seen_subcommand_from page' -l from -x -d 'begins at step N, by default the first'
 complete -c hek -n '__fish_seen_subcommand_from page' -l to -x -d 'ends at step N, by default the last'
@@ -56,9 +56,9 @@ complete -c hek -n '__fish_seen_subcommand_from page' -l previous -x -d 'the add
 complete -c hek -n '__fish_seen_subcommand_from page' -l next -x -d 'the address of the page after this one'
 complete -c hek -n '__fish_seen_subcommand_from page' -l orders -d 'makes the explorer of every order of the moves, as hek permute plays them'
 complete -c hek -n '__fish_seen_subcommand_from page' -l levels -d 'makes the explorers of all levels, with their outcomes side by side'
-complete -c hek -n '__fish_seen_subcommand_from page' -l split -d 'with --orders: makes finish and precommit a separate move'
+complete -c hek -n '__fish_seen_subcommand_from page' -l split -d 'with --orders or --levels: makes finish and precommit a separate move'
 complete -c hek -n '__fish_seen_subcommand_from page' -l grain -x -a 'move split event' -d 'cuts the end of a transaction into one move (move), two (split), or a move for each event (event)'
-complete -c hek -n '__fish_seen_subcommand_from page' -l limit -x -d 'with --orders: writes nothing if there are more than N nodes (5000)'
+complete -c hek -n '__fish_seen_subcommand_from page' -l limit -x -d 'with --orders or --levels: writes nothing if there are more than N nodes (5000)'
 complete -c hek -n '__fish_seen_subcommand_from page' -l machine -d 'shows the machine alone, without the story'
 complete -c hek -n '__fish_seen_subcommand_from page' -l json -d 'writes the page\'s data alone, one object of JSON, and then the plays of its story, an object each'
 complete -c hek -n '__fish_seen_subcommand_from page' -s h -l help -d 'Print help'
@@ -76,9 +76,9 @@ complete -c hek -n '__fish_seen_subcommand_from permute' -l jobs -x -d 'counts o
 complete -c hek -n '__fish_seen_subcommand_from permute' -l each -d 'prints a line for each order'
 complete -c hek -n '__fish_seen_subcommand_from permute' -l order -x -d 'prints the events of one order as a schedule: a name for each move'
 complete -c hek -n '__fish_seen_subcommand_from permute' -l levels -d 'prints the outcomes at each level, side by side'
-complete -c hek -n '__fish_seen_subcommand_from permute' -l find -x -d 'prints the shortest beginning of an order in which this comes: `a aborted deadlock`, `aborted`, `waiting`, `not serial`, `another order`, `breaks`'
+complete -c hek -n '__fish_seen_subcommand_from permute' -l find -x -d 'prints the shortest beginning of an order in which this comes: `a aborted deadlock`, `aborted`, `waiting`, `not serializable`, `serializable in another order`, `breaks`'
 complete -c hek -n '__fish_seen_subcommand_from permute' -l stats -d 'says on standard error how many states the orders lead to'
-complete -c hek -n '__fish_seen_subcommand_from permute' -l add -d 'prints the sum of the tables FILE and TABLE.., which --part printed, as text or as JSON'
+complete -c hek -n '__fish_seen_subcommand_from permute' -l add -d 'prints the sum of the tables FILE and TABLE.., which --part printed with --json'
 complete -c hek -n '__fish_seen_subcommand_from permute' -l json -d 'prints JSON, one object on each line'
 complete -c hek -n '__fish_seen_subcommand_from permute' -s h -l help -d 'Print help'
 complete -c hek -n '__fish_seen_subcommand_from permute' -F
@@ -94,7 +94,7 @@ complete -c hek -n '__fish_seen_subcommand_from check' -l json -d 'prints JSON, 
 complete -c hek -n '__fish_seen_subcommand_from check' -s h -l help -d 'Print help'
 complete -c hek -n '__fish_seen_subcommand_from check' -F
 complete -c hek -n '__fish_seen_subcommand_from history' -l explain -a 'always never' -d 'says of each fault what is wrong, what is wanted and what is meant, as at a terminal; =never only names it'
-complete -c hek -n '__fish_seen_subcommand_from history' -l level -x -a 'serializable repeatable snapshot' -d 'judges all transactions at a level: serializable, repeatable, snapshot, parallel-snapshot, causal, read-atomic, monotonic-view, read-committed or read-uncommitted; or asks for a guarantee of sessions: monotonic-reads, read-your-writes, monotonic-writes, writes-follow-reads, or guarantees for all four'
+complete -c hek -n '__fish_seen_subcommand_from history' -l level -x -a 'serializable snapshot parallel-snapshot causal read-atomic monotonic-view read-committed read-uncommitted monotonic-reads read-your-writes monotonic-writes writes-follow-reads guarantees repeatable' -d 'judges all transactions at a level: serializable, repeatable, snapshot, parallel-snapshot, causal, read-atomic, monotonic-view, read-committed or read-uncommitted; or asks for a guarantee of sessions: monotonic-reads, read-your-writes, monotonic-writes, writes-follow-reads, or guarantees for all four'
 complete -c hek -n '__fish_seen_subcommand_from history' -l levels -d 'says of each level whether the log satisfies it, from read-uncommitted to serializable'
 complete -c hek -n '__fish_seen_subcommand_from history' -l sessions -d 'has sessions bind at the level, or at each with --levels: a transaction comes after those before it in its session, and sees them'
 complete -c hek -n '__fish_seen_subcommand_from history' -l guarantees -d 'says of each guarantee of sessions whether the log satisfies it; after the levels, if they are asked for too'
@@ -144,6 +144,6 @@ complete -c hek -n '__fish_seen_subcommand_from dis' -l image -d 'FILE is a sche
 complete -c hek -n '__fish_seen_subcommand_from dis' -l explain -a 'always never' -d 'says of each fault what is wrong, what is wanted and what is meant, as at a terminal; =never only names it'
 complete -c hek -n '__fish_seen_subcommand_from dis' -s h -l help -d 'Print help'
 complete -c hek -n '__fish_seen_subcommand_from dis' -F
+complete -c hek -n '__fish_seen_subcommand_from completions' -a 'bash zsh fish words' -d 'the shell; words for the words of a session of hek debug'
 complete -c hek -n '__fish_seen_subcommand_from completions' -s h -l help -d 'Print help'
-complete -c hek -n '__fish_seen_subcommand_from completions' -a 'bash zsh fish words'
 complete -c hek -n '__fish_seen_subcommand_from man' -s h -l help -d 'Print help'

@@ -14,7 +14,7 @@ import time
 
 CODES = {" ": "Space", "/": "Slash"}
 # The numbers by which Chromium knows keys; a letter's is that of its capital.
-NUMBERS = {"Tab": 9, "Enter": 13, "Escape": 27, " ": 32, "End": 35, "Home": 36, "ArrowLeft": 37, "ArrowUp": 38, "ArrowRight": 39, "ArrowDown": 40,
+NUMBERS = {"Tab": 9, "Enter": 13, "Escape": 27, " ": 32, "PageUp": 33, "PageDown": 34, "End": 35, "Home": 36, "ArrowLeft": 37, "ArrowUp": 38, "ArrowRight": 39, "ArrowDown": 40,
            "Backspace": 8, "F8": 119, "/": 191}
 # What Chromium does at a letter with Control.
 COMMANDS = {"z": ["undo"], "a": ["selectAll"]}
@@ -22,6 +22,11 @@ COMMANDS = {"z": ["undo"], "a": ["selectAll"]}
 DRIVER_KEYS = {"ArrowLeft": "\ue012", "ArrowUp": "\ue013", "ArrowRight": "\ue014", "ArrowDown": "\ue015", "PageUp": "\ue00e", "PageDown": "\ue00f",
                "Home": "\ue011", "End": "\ue010", "Enter": "\ue007", "Escape": "\ue00c", "Backspace": "\ue003", "Tab": "\ue004", "F8": "\ue038",
                "Control": "\ue009"}
+# Places of an address that no page has, or none has as it is written.
+WILD = ["%", "%%", "%E0%A4%A", "%00", "%u0041", "1.5", "-1", "1e9", "99999999999999999999", "0x10", "NaN", "Infinity", "null", "undefined", "__proto__",
+        "constructor", "a.b@x", "a.b@-1", "a.b@1.5", "a.b@1@2", "..", ".a.", "a..b", "zz.yy", "a.a.a.a.a.a.a.a.a.a.a.a", "/", "///", "@", "@@@", "@5", "?", "?ask=1",
+        "/snapshot/zz@9", "own/snapshot/q.q@3", "write-skew/nolevel@2", "write-skew/snapshot/__proto__@2", "s=", "s=%%", "s=AAAA", "s=a/b@c?d",
+        "snapshot:", "nolevel:a.b", ":::", "serializable:a.b@7", "<img src=x onerror=stop()>", "'\"\\", "\u202ea", "\U0001f600@2"]
 # What Firefox does at an expression of a page: as its developer tools, since the page's policy lets no text be run.
 EVALUATE = r"""
 globalThis.Debugger ?? ChromeUtils.importESModule("resource://gre/modules/jsdebugger.sys.mjs").addDebuggerToGlobal(globalThis);

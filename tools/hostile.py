@@ -1,8 +1,11 @@
 """Hostile inputs, each with an answer that a rule gives, for tools/cases. HOSTILE=all in the environment tries each byte of an image as each other."""
+import json
 import os
 import re
+import subprocess
 import tempfile
 
+import launch
 from launch import Sum, run, told
 
 HEADER = bytes.fromhex("484B53430002 00000004 00000001 00000001 00000001 000000000000000A 0000000000000064 01 01 61 02 00000001 000000000000000A 0000000000000000")
@@ -217,6 +220,43 @@ def crowd():
     return Sum(int(good), [] if good else [told("hostile/1,000,000 events:1", repr(ran))], {})
 
 
+EVIL = "a\x1b[31m\x07\x7f\u009b\u202e\u2066z"
+BARE = re.compile("[\0-\x08\x0b-\x1f\x7f-\x9f\u202a-\u202e\u2066-\u2069]")
+INPUTS = (EVIL, f"buckets 1 # {EVIL}\nrow 10 1\ntxn a serializable\n# {EVIL}\na read 10 # {EVIL}\n", f"buckets 1\nrow 10 1\ntxn a serializable\na {EVIL} 10\n",
+          json.dumps({"txn": EVIL, "status": "committed", "ops": [["read", EVIL, EVIL]]}, ensure_ascii=False) + "\n")
+
+
+def controls(command):
+    """Control characters in each name, in the value of each option and in what is read: none goes out."""
+    options = re.findall(r"--([a-z-]+) <", run([command, "--help"]).out.decode())
+    lines = [([command, *more], given) for given in INPUTS for more in ([], ["-"], ["-", "-"], ["-", "--all"], ["-", "--why"], ["-", "--text"], ["-", "--orders"], [EVIL], ["-", EVIL], [EVIL, EVIL])]
+    lines += [([command, f"--{it}", EVIL, "-"], INPUTS[1]) for it in options] + [([command, f"--{EVIL}"], ""), ([EVIL], ""), ([command + EVIL], "")]
+    ran = [(words, run(words, None, given.encode())) for line, given in lines for words in (line, [*line, "--json"], [*line, "--explain"])]
+    bad = [told(f"hostile/control characters:{command}", repr(words), repr(it)) for words, it in ran if BARE.search((it.out + it.err).decode(errors="replace"))]
+    return Sum(len(ran) - len(bad), bad, {})
+
+
+# Command lines whose OUT is FILE: by its name, another one, a link, a second name of the same file, and as standard input.
+SAME = [(words, file) for file in ("f.hek", "link", "hard") for words in ("asm f.hek OUT", "asm - OUT", "page f.hek -o OUT", "page - -o OUT", "history f.jsonl --order-out OUT", "history - --order-out OUT")]
+
+
+def overwritten(place):
+    """A command whose OUT is its FILE: refused, and the file is as it was."""
+    words, out = SAME[place]
+    name, text = ("f.jsonl", INPUTS[3]) if "history" in words else ("f.hek", TEXT)
+    with tempfile.TemporaryDirectory(prefix="cases-") as room:
+        with open(f"{room}/{name}", "w", encoding="utf-8") as file:
+            file.write(text)
+        os.symlink(name, f"{room}/link")
+        os.link(f"{room}/{name}", f"{room}/hard")
+        line = ["hek", *words.replace("OUT", name if out == "f.hek" else out).split()]
+        with open(f"{room}/{name}", "rb") as given:
+            ran = subprocess.run(line, executable=launch.HEK, cwd=room, stdin=given, capture_output=True, env={})
+        with open(f"{room}/{name}", encoding="utf-8") as file:
+            good = (ran.returncode, file.read(), sorted(os.listdir(room))) == (2, text, sorted(["link", "hard", name])) and b"is FILE itself" in ran.stderr
+    return Sum(int(good), [] if good else [told(f"hostile/OUT is FILE:{place}", repr(line), repr(ran))], {})
+
+
 def work(folder):
     """What there is, as tools/cases has it: a name with its cases. The folder has the schedules whose traces are changed."""
     traces = sorted(f"{folder}/{it}" for it in os.listdir(folder))
@@ -229,5 +269,7 @@ def work(folder):
     yield "hostile/cut schedule texts", [(1, cuts, (it,)) for it in range(len(TEXT) + 1)]
     yield "hostile/changed trace lines", [(1, changed_lines, (traces[0], it, ran[0])) for it in range(1, ran[0].count("\n") + 1)]
     yield "hostile/raised replies", [(1, raised_replies, (file, trace)) for file, trace in zip(traces, ran)]
+    yield "hostile/OUT is FILE", [(1, overwritten, (it,)) for it in range(len(SAME))]
+    yield "hostile/control characters", [(9, controls, (it,)) for it in "run debug page permute check history drive threads word release dis completions man".split()]
     yield "hostile/limits of readers", [(1, readers, ())]
     yield "hostile/1,000,000 events", [(1, crowd, ())]

@@ -217,6 +217,17 @@ def leads_of(block):
     return [(it[1], it[2]) for it in found] if all(found) and key_of(found[0][1]) else None
 
 
+# The servers and the levels of the table of logs.
+SERVERS = {"M": "MariaDB", "P": "PostgreSQL"}
+ASKED = {"RU": "read uncommitted", "RC": "read committed", "RR": "repeatable read", "S": "serializable"}
+
+
+def said_of_log(server, level, what):
+    """What the table says of a log, in sentences: its transactions are named as in the picture."""
+    said = re.sub(r"\bT(\d+)\b", r"\1", what)
+    return f"{SERVERS[server]}, asked for {ASKED[level]}. {said[0].upper()}{said[1:]}."
+
+
 class Pages:
     """`schedules`, in order: each with its group, name, title and text; where it opens; and what is said at its start, beside its run, and after it."""
 
@@ -272,8 +283,8 @@ class Pages:
 
     def add_logs(self):
         """The logs of examples/histories, whose README has a line for each."""
-        table = re.findall(r"(?m)^\| `([a-z0-9-]+)\.jsonl` \| .*? \| \d+ \| (.*?) \|$", read(f"{self.root}/examples/histories/README.md"))
-        said = {name: f"{what}." for name, what in table}
+        table = re.findall(r"(?m)^\| `([a-z0-9-]+)\.jsonl` \| ([MP]) (\w+) \| \d+ \| (.*?) \|$", read(f"{self.root}/examples/histories/README.md"))
+        said = {name: said_of_log(server, level, what) for name, server, level, what in table}
         for name in sorted(it[: -len(".jsonl")] for it in os.listdir(f"{self.root}/examples/histories") if it.endswith(".jsonl")):
             body = said.get(name, "")
             self.add("Logs of engines", "log-" + name, title_of(name), f"examples/histories/{name}.jsonl", title_of(name), Prose({}, {}), body)

@@ -117,15 +117,14 @@ function caret() {
 // ---- faults
 
 // The line that is being typed is no fault yet: until the caret leaves it, or nothing was typed for so long, in milliseconds.
-const REST = 1500;
-let typedLine = null, rest = null;
+let restTime = 1500, typedLine = null, rest = null;
 
 const shownFaults = () => faults.filter(it => it.at !== typedLine);
 
 function typesLine(at) {
   typedLine = at;
   clearTimeout(rest);
-  if (at !== null) rest = setTimeout(leaveLine, REST);
+  if (at !== null) rest = setTimeout(leaveLine, restTime);
 }
 
 function leaveLine() {
@@ -148,12 +147,12 @@ function readFaults(err, name) {
     if (left) more.push(left);
     found.push({at: place[2] - 1, from: place[3] - 1, length: marks ? marks[1].length : 1, said});
   }
-  return {found, more: more.filter(it => it && !(found.length && it.startsWith("hek: line ")))};
+  return {found, more: more.filter(it => it && !(found.length && /^hek: (history: )?line /.test(it)))};
 }
 
 function showFaults(err) {
   const {found, more} = readFaults(err, NAME);
-  [faults, others] = [found, more];
+  [faults, others] = [found, [notice, ...more].filter(Boolean)];
   drawFaults();
 }
 

@@ -84,7 +84,7 @@ async function unpack(said) {
     const {done, value} = await reader.read();
     if (done) return new Blob(parts).text();
     length += value.length;
-    if (length > MOST_UNPACKED) throw new Error("too long");
+    if (length > MOST_UNPACKED) throw new TooLong();
     parts.push(value);
   }
 }
@@ -139,6 +139,9 @@ function visit(hash) {
   goToAddress();
 }
 
+// What is to be said of the address, until the text changes.
+let notice = "";
+
 async function goToAddress() {
   clearTimeout(addressTimer);
   const asked = readAddress(location.hash), {name} = asked;
@@ -152,24 +155,26 @@ async function goToAddress() {
   }
   now = {level: asked.level ?? SCHEDULES.find(it => it.name === opened)?.opens?.level ?? null, step: asked.step, mode: "", asks: asked.asks};
   wantedOrder = asked.order;
+  notice = said;
   await tell();
-  if (said) { others = [said]; drawFaults(); }
   if (asked.panel === "explorer") await openExplorer(asked.at);
   else if (asked.panel === "trace") await openTrace();
   else if (asked.panel === "words") openWords();
 }
 
+class TooLong extends Error {}
+
 // Opens the text of an address; answers what is to be said of it.
 async function openPacked(said) {
-  let what = "";
   try {
     shared = await unpack(said);
     openSchedule("shared");
-  } catch {
+    return "";
+  } catch (fault) {
     openSchedule(SCHEDULES[0].name);
-    what = "The schedule of this address can’t be read: the address was cut, or changed on its way. This is the first lesson instead.";
+    const why = fault instanceof TooLong ? "it is longer than 1 MB" : "the address was cut, or changed on its way";
+    return `The schedule of this address can’t be read: ${why}. This is the first lesson instead.`;
   }
-  return what;
 }
 
 // ---- share and save

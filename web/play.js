@@ -15,6 +15,7 @@ function typed(byHand) {
   const {at} = caret();
   typesLine(byHand ? at : null);
   // Faults of other lines stay until the text is judged again, if they can still be where they were.
+  notice = "";
   faults = byHand && counted === lines().length ? faults.filter(it => it.at !== at) : [];
   here = null;
   $("tip").hidden = true;
@@ -31,6 +32,7 @@ function reset() {
   text.value = original();
   keep("text:" + opened, null);
   wantedOrder = null;
+  notice = "";
   later();
 }
 
@@ -268,6 +270,12 @@ function listen() {
   });
   document.addEventListener("keydown", pageKey);
   addEventListener("resize", () => draw());
+  // Where the page begins to scroll, its pictures have less room, and are drawn anew.
+  let room = 0;
+  new ResizeObserver(([{contentRect: {width}}]) => {
+    if (width > 0 && width < room) draw();
+    room = width || room;
+  }).observe($("st-cards"));
   addEventListener("beforeprint", printed);
   addEventListener("popstate", goToAddress);
   addEventListener("hashchange", () => { if (location.hash !== address()) goToAddress(); });
@@ -298,7 +306,7 @@ async function start() {
   const isStored = !/^#(s=|own)|\/(explorer|trace)\b/.test(location.hash) && !Object.keys(localStorage).some(key => key.startsWith("hek:text:"));
   if (!isStored) await loading.catch(() => {});
   await goToAddress();
-  await loading.then(() => { if (!model || isOld || others.length) return tell(); return undefined; }, fault => { say(fault.message ?? `The machine can’t be loaded: ${fault}`); });
+  await loading.then(() => { if (!model || isOld || others.some(it => it !== notice)) return tell(); return undefined; }, fault => { say(fault.message ?? `The machine can’t be loaded: ${fault}`); });
 }
 
 start();

@@ -7,7 +7,7 @@ const MOST_MODELS = 24;
 const models = new Map();
 
 const objects = out => out.trim().split("\n").filter(Boolean).map(parse);
-const isBad = it => /^not ser/.test(it.verdict) || (it.breaks !== undefined && it.breaks !== null);
+const isBad = it => Story.story.verdictKind(it.verdict) === "not" || (it.breaks !== undefined && it.breaks !== null);
 
 // ---- stored plays
 
@@ -28,10 +28,11 @@ const storedOf = schedule => schedule === original() ? stored?.[opened] : undefi
 // A text that has what its schedule asks of the machine: `run --auto` begins and ends by itself.
 const isOwnEnds = schedule => !schedule.split("\n").filter(isStep).some(it => /^\s*\S+\s+begin\b/.test(it)) || isProgram(schedule);
 
-// The outcomes of all orders by level, with an order of each; `said` is why there are none.
+// The outcomes of all orders by level, with an order of each; `said` is why there are none. With `--explain` the program says how far it is.
 async function outcomesOf(schedule) {
-  const got = await hek(["permute", "--levels", "--json", NAME], {[NAME]: schedule});
-  if (got.isEnded || got.status !== 0) return {isEnded: got.isEnded, outcomes: {}, said: got.err.split("\n")[0].replace(/^hek: (permute: )?/, "")};
+  const got = await hek(["permute", "--levels", "--json", "--explain", NAME], {[NAME]: schedule});
+  if (got.isEnded) return got;
+  if (got.status !== 0) return {outcomes: {}, said: got.err.split("\n")[0].replace(/^hek: (permute: )?/, "")};
   return {outcomes: byLevel(objects(got.out)), said: ""};
 }
 
@@ -131,7 +132,7 @@ async function logModel(schedule, key) {
   const stories = {}, lesson = lessonOf();
   for (const it of answers) if (it.level || !stories.serializable) stories[it.level ?? "serializable"] ??= storyOf(playOfLog(schedule, it));
   return {model: {id: key, title: title(), text: schedule, about: stories.serializable.about, question: "", stories, outcomes: {}, levels: ["serializable"], order: [], opens: {level: "serializable", order: []}, isOwnOrder: true,
-    uncounted: "", isLog: true, ...lesson, intro: `${lesson.intro ?? ""}${ladderHtml(answers.filter(it => it.level))}`}};
+    uncounted: "", isLog: true, ...lesson, intro: `${lesson.intro ?? ""}${ladderHtml(answers.filter(it => it.level), answers[0])}`}};
 }
 
 // What `hek history` says of a log as serializable, and at all levels.
@@ -141,17 +142,20 @@ async function answersTo(schedule) {
     if (!wasm) return {err: "The machine isn't loaded yet."};
     const got = await hek(["history", ...words, "--json", "--explain", LOG], {[LOG]: schedule});
     if (got.isEnded) return got;
-    if (!got.out.trim() || got.status === 2) return {err: got.err};
-    all.push(...objects(got.out));
+    const its = objects(got.out);
+    if (!its.length || its.some(it => it.kind === "fault")) return {err: got.err};
+    all.push(...its);
   }
   return all;
 }
 
-// At which levels a log holds: each has its story.
-function ladderHtml(answers) {
+// At which levels a log holds: each has its story. A level holds in some order of commits, where `own` goes by the end times.
+function ladderHtml(answers, own) {
   const {esc} = Story.text, seen = new Set(), rungs = answers.filter(it => !seen.has(it.level) && seen.add(it.level));
-  const said = it => it.verdict === "holds" || /^serial/.test(it.verdict) ? "✓ holds" : it.verdict === "unknown" ? "unknown" : `<b class="not">✗ ${esc(it.anomaly ?? "fails")}</b>`;
-  return rungs.length ? `<table class="ladder">${rungs.map(it => `<tr><td><button type="button" class="rung" data-level="${esc(it.level)}">${esc(it.level)}</button></td><td>${said(it)}</td></tr>`).join("")}</table>` : "";
+  const said = it => ({serial: "✓ holds", other: "✓ holds", unknown: "unknown"})[Story.story.verdictKind(it.verdict)] ?? `<b class="not">✗ ${esc(it.anomaly ?? "fails")}</b>`;
+  const isOther = rungs.some(it => it.level === "serializable" && Story.story.verdictKind(it.verdict) !== "not") && Story.story.verdictKind(own.verdict) === "not";
+  const note = isOther ? "<p>A level holds if some order of commits explains the log. The story goes by the log’s own end times, and in their order the log is not serializable.</p>" : "";
+  return rungs.length ? `<table class="ladder">${rungs.map(it => `<tr><td><button type="button" class="rung" data-level="${esc(it.level)}">${esc(it.level)}</button></td><td>${said(it)}</td></tr>`).join("")}</table>${note}` : "";
 }
 
 // ---- what is shown

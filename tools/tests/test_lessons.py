@@ -74,7 +74,7 @@ HISTORIES = """# Logs
 
 | Log | Of | Lines | What |
 |---|---|---|---|
-| `lost-update.jsonl` | an engine | 3 | two wrote over one row |
+| `lost-update.jsonl` | P RC | 3 | for both a loss: T18 and T8 wrote over one row |
 """
 
 
@@ -151,7 +151,7 @@ class Lessons(Tree):
         self.assertIn('As in <a href="#first-lesson">first-lesson</a>', self.prose("program-no-loss"))
 
     def test_a_log(self):
-        self.assertIn("two wrote over one row.", self.prose("log-lost-update"))
+        self.assertIn("PostgreSQL, asked for read committed. For both a loss: 18 and 8 wrote over one row.", self.prose("log-lost-update"))
         self.assertEqual(self.of("log-lost-update")["text"], "{}\n")
 
     def test_a_lead_that_names_no_move(self):

@@ -5,8 +5,8 @@ import tree  # noqa: F401  (it puts tools on the path)
 
 import plays
 
-GOOD = {"verdict": "serial", "levels": {"serializable": 2, "repeatable": 2, "snapshot": 1}, "first": {"serializable": ["a", "b"], "repeatable": ["a", "b"], "snapshot": ["a", "b"]}}
-BAD = {"verdict": "not serial", "levels": {"serializable": 0, "repeatable": 0, "snapshot": 3}, "first": {"serializable": None, "repeatable": None, "snapshot": ["b", "a"]}}
+GOOD = {"verdict": "serializable", "levels": {"serializable": 2, "repeatable": 2, "snapshot": 1}, "first": {"serializable": ["a", "b"], "repeatable": ["a", "b"], "snapshot": ["a", "b"]}}
+BAD = {"verdict": "not serializable", "levels": {"serializable": 0, "repeatable": 0, "snapshot": 3}, "first": {"serializable": None, "repeatable": None, "snapshot": ["b", "a"]}}
 OWN = {"levels": ["repeatable", "repeatable"], "order": ["a", "a"]}
 
 
@@ -18,7 +18,7 @@ class Plays(unittest.TestCase):
 
     def test_outcomes_by_level(self):
         found = plays.by_level([GOOD, BAD])
-        self.assertEqual(found["serializable"], {"orders": 2, "outcomes": [{"verdict": "serial", "orders": 2, "first": ["a", "b"]}]})
+        self.assertEqual(found["serializable"], {"orders": 2, "outcomes": [{"verdict": "serializable", "orders": 2, "first": ["a", "b"]}]})
         self.assertEqual([it["orders"] for it in found["snapshot"]["outcomes"]], [3, 1])
         self.assertEqual(plays.by_level([]), {})
 

@@ -91,9 +91,15 @@ const frees = (story, at, step) => story.waits.map((wait) => {
 
 // ---- the cycle
 
-/** How far a label at a point is from boxes, other labels, arrow heads and the edges of the picture. */
+/** The columns that the cycle is made of. */
+const inCycle = (story) => new Set(story.verdict.edges.flatMap(({ a, b }) => [a, b]));
+
+/** How far a label at a point is from boxes, other labels, arrow heads and the edges of the picture. It may rather cover a box that has faded. */
 function clearance([x, y], [w, h], story, at, used, curves) {
-  const boxes = story.columns.map((column, index) => Math.max(Math.abs(at.mid(index) - x) - (at.width(index) + w) / 2, Math.abs(at.y(column.t) + at.high / 2 - y) - (at.high + h) / 2));
+  const kept = inCycle(story), boxes = story.columns.map((column, index) => {
+    const free = Math.max(Math.abs(at.mid(index) - x) - (at.width(index) + w) / 2, Math.abs(at.y(column.t) + at.high / 2 - y) - (at.high + h) / 2);
+    return kept.has(index) ? free : Math.max(free, -0.25 * at.u);
+  });
   const labels = used.map((it) => Math.max(Math.abs(it.x - x) - (it.w + w) / 2 - 4, Math.abs(it.y - y) - h - 3));
   const tips = curves.map(({ tip }) => Math.max(Math.abs(tip[0] - x) - w / 2 - 0.7 * at.u, Math.abs(tip[1] - y) - h / 2 - 0.9 * at.u));
   return Math.min(...boxes, ...labels, ...tips, x - w / 2, at.w - x - w / 2);
@@ -101,19 +107,31 @@ function clearance([x, y], [w, h], story, at, used, curves) {
 
 const SHIFTS = [0, 0.9, -0.9, 1.8];
 
+/** How far a label of this height at a point of a curve is moved up or down, and stays on the curve: into the gap between two lanes, off their boxes. */
+function intoGap(y, h, at, count) {
+  const gap = Math.round(y / at.lane), middle = gap * at.lane, slack = Math.max(0, at.gap / 2 - h / 2 - 1), most = 0.45 * h;
+  return gap < 1 || gap >= count ? 0 : clamp(-most, clamp(middle - slack, y, middle + slack) - y, most);
+}
+
 /** The edges of the cycle: arrows between the boxes that make them, each with its kind and its key. */
 function edges(story, at) {
   const ends = new Map(), used = [], all = story.verdict.edges.filter((it) => it.a !== null && it.b !== null && it.a !== undefined && it.b !== undefined);
   const shift = (key) => { const count = ends.get(key) ?? 0; ends.set(key, count + 1); return SHIFTS[count % 4] * Math.min(at.u, at.width(0) / 4); };
   const curves = all.map(({ a, b, from, to }) => join(story, at, a, b, [shift(`${a} ${to > from}`), shift(`${b} ${to < from}`)]));
-  const drawn = all.map(({ kind, key }, index) => {
-    const { curve, tip, isDown, size } = curves[index], words = `${kind} ${key ?? ""}`.trim(), type = (at.width(0) < 3 * at.u ? S : M) * at.u, w = wide(words, type, 700) + 0.9 * type, h = 1.45 * type;
-    const points = Array.from({ length: 41 }, (_, part) => pointAt(curve, 0.1 + part * 0.02)), score = (point) => clearance(point, [w, h], story, at, used, curves);
-    const [x, y] = points.map((point) => [score(point), point]).sort(([one], [other]) => other - one)[0][1], top = Math.max(y, h / 2 + 1), left = clamp(w / 2 + 1, x, at.w - w / 2 - 1);
-    used.push({ x: left, y: top, w });
-    return [path(curved(curve), "edge") + head(...tip, isDown, size * 1.5, "bad"), rect(left - w / 2, top - h / 2, w, h, "bad", 0.3 * at.u) + text(left, top + 0.35 * type, type, words, "b on")];
-  });
-  return drawn.map(([line]) => line).join("") + drawn.map(([, label]) => label).join("");
+  const type = (at.width(0) < 3 * at.u ? S : M) * at.u, h = 1.45 * type, words = all.map(({ kind, key }) => `${kind} ${key ?? ""}`.trim()), widths = words.map((it) => wide(it, type, 700) + 0.9 * type);
+  const place = (index) => {
+    const w = widths[index], others = used.filter((_, other) => other !== index), points = Array.from({ length: 41 }, (_, part) => pointAt(curves[index].curve, 0.1 + part * 0.02));
+    const [x, y] = points.flatMap(([left, top]) => [0, intoGap(top, h, at, story.names.length)].map((by) => {
+      const point = [left, top + by];
+      return [clearance(point, [w, h], story, at, others, curves) - Math.abs(by) / 2, point];
+    })).sort(([one], [other]) => other - one)[0][1];
+    used[index] = { x: clamp(w / 2 + 1, x, at.w - w / 2 - 1), y: Math.max(y, h / 2 + 1), w };
+  };
+  // Each label once more where the others are known.
+  for (let round = 0; round < 3; round++) all.forEach((_, index) => place(index));
+  const line = ({ curve, tip, isDown, size }) => path(curved(curve), "edge") + head(...tip, isDown, size * 1.5, "bad");
+  const label = ({ x, y, w }, index) => rect(x - w / 2, y - h / 2, w, h, "bad", 0.3 * at.u) + text(x, y + 0.35 * type, type, words[index], "b on");
+  return curves.map(line).join("") + used.map(label).join("");
 }
 
 // ---- all of it
@@ -131,7 +149,7 @@ export const labelOf = (column, index) => `${index + 1}: ${plain(column.say ?? "
 
 /** The lanes after `step` moves; the step after the last is the verdict. With `isLive` each box can be pressed. */
 export function lanes(story, at, step, isLive = false) {
-  const isEnd = step > at.count, now = Math.min(step, at.count), isCycle = isEnd && story.verdict.kind === "not", kept = new Set(story.verdict.edges.flatMap(({ a, b }) => [a, b])), h = at.lane * story.names.length;
+  const isEnd = step > at.count, now = Math.min(step, at.count), isCycle = isEnd && story.verdict.kind === "not", kept = inCycle(story), h = at.lane * story.names.length;
   const band = now > 0 && !isEnd ? rect(at.left(now - 1), 0, at.width(now - 1), h, "band") : "", dim = (is) => (is ? ' class="dim"' : "");
   const rules = story.names.map((_, t) => path(`M0 ${r1(at.y(t) + at.high / 2)}H${r1(at.w)}`, "rule")).join(""), lives = story.names.map((_, t) => life(story, at, t, now)).join("");
   const bars = story.waits.filter((wait) => wait.from < now).map((wait) => `<g${dim(isCycle)}>${waitBar(story, at, wait, now)}</g>`).join("");

@@ -94,9 +94,10 @@ export function layout(story, { w, h, u, all = [story], rows = true }) {
     length = end(all, slots, way.widths, xs);
     if (length <= room + 0.5) break;
   }
-  const first = way.widths.flat()[0] ?? 0, isEven = way.least === first, stretch = isEven || length >= room ? 1 : clamp(1, (room - first) / Math.max(length - first, 1), 2);
-  const widths = way.widths[all.indexOf(story)], place = (x) => pad + first / 2 + (x - first / 2) * stretch;
-  const mid = (index) => place(xs[own[index]] ?? (xs.at(-1) ?? 0) + first), most = place(length - first / 2) + first / 2;
+  const first = way.widths.flat()[0] ?? 0, isEven = way.least === first, boxes = way.widths.flatMap((its, which) => its.map((width, index) => ({ x: xs[slots.of[which][index]] - first / 2, width })));
+  const stretches = boxes.filter(({ x }) => x > 1).map(({ x, width }) => (room - (first + width) / 2) / x), stretch = isEven || length >= room ? 1 : clamp(1, Math.min(2, ...stretches), 2);
+  const widths = way.widths[all.indexOf(story)], place = (x) => pad + first / 2 + x * stretch;
+  const mid = (index) => place((xs[own[index]] ?? (xs.at(-1) ?? 0) + first) - first / 2), most = Math.max(pad, ...boxes.map(({ x, width }) => place(x) + width / 2));
   const left = (index) => mid(index) - (widths[index] ?? first) / 2, right = (index) => (index ? mid(index - 1) + (widths[index - 1] ?? first) / 2 : pad);
   const high = heights(story, { h, u, rows, isNarrow });
   return { w: Math.max(most + tail, w - gutter), u, count: story.columns.length, gutter, pad, nameSize, size: high.high > 3.6 * u ? way.size : Math.min(way.size, L), isNarrow, mid, left, right,

@@ -134,8 +134,6 @@ function edgeEnds({ kind, key, read: seen, written, from, to, operations, words 
     .map((it, index) => it ?? own(index ? to : from).at(-1));
 }
 
-const VERDICT = { serial: "serializable", holds: "serializable", serializable: "serializable", "not serial": "not serializable", fails: "not serializable", "not serializable": "not serializable" };
-
 /** The play of a log, whose verdict is an object of `hek history --json`: as serializable, or at the level that it names. */
 export function playOfLog(text, answer) {
   const { rows, txns: all } = read(text), edges = answer.cycle ?? [], txns = chosen(all, edges);
@@ -145,7 +143,7 @@ export function playOfLog(text, answer) {
   const told = order.map((index) => ({ ...moves[index], ...found(moves[index], moves, rows, place) }));
   return {
     kind: "log", level: answer.level ?? "serializable", names: txns.map(({ name }) => name), levels: txns.map(({ level }) => level ?? "serializable"), order: null, moves: told, breaks: null,
-    together: { verdict: VERDICT[answer.verdict] ?? "unknown", anomaly: answer.anomaly ?? "", order: answer.serial_order?.map(String) ?? [], cycle: cycle.map((edge) => ({ ...edge, moves: edge.ends.map((it) => (it === undefined ? null : place(it))) })) },
+    together: { verdict: answer.verdict, anomaly: answer.anomaly ?? "", order: answer.serial_order?.map(String) ?? [], cycle: cycle.map((edge) => ({ ...edge, moves: edge.ends.map((it) => (it === undefined ? null : place(it))) })) },
     about: txns.length < all.length ? `The log has ${all.length} transactions; these are ${edges.length ? "those of the cycle" : "the first ones"}.` : "",
   };
 }

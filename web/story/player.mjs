@@ -9,6 +9,8 @@ const NARROW = "(max-width: 50rem)";
 const FORWARD = { ArrowRight: 1, ArrowDown: 1, PageDown: 1, ArrowLeft: -1, ArrowUp: -1, PageUp: -1 };
 // So long after a reader's own scrolling the words don't follow the step, in milliseconds.
 const READING = 700;
+// The least height of the cards, in the size of ordinary text: they give room to a picture that wants it.
+const LEAST_CARDS = 10;
 
 export class Player {
   /** `host` goes to another place: `go({level, order, step, mode}, isEntry)`, where an entry is one of the browser's history. */
@@ -61,29 +63,39 @@ export class Player {
     return `<p class="guess ${isRight ? "" : "not"}">${isRight ? "✓ Right." : `✗ The guess was: ${rich(answer, story.names)}.`}</p>`;
   }
 
-  showCards(story) {
+  /** The cards, in so much height where the picture wants the rest. */
+  showCards(story, high = null) {
     const { model, place, unit } = this, box = byId("st-cards"), isHidden = place.mode !== "" || place.asks || model.levels.length < 2, narrow = matchMedia(NARROW).matches;
     box.hidden = isHidden;
     if (isHidden) return put(box, "");
     box.style.setProperty("--cards", model.levels.length);
+    if (high === null) box.style.removeProperty("--high"); else box.style.setProperty("--high", `${high}px`);
+    for (const it of box.querySelectorAll(".more")) it.remove();
     const scrolled = [...box.querySelectorAll(".level")].map((it) => it.scrollTop);
     put(box, cards(model, story, place, { w: box.clientWidth, u: unit, narrow }));
     box.querySelectorAll(".level").forEach((card, index) => {
       card.scrollTop = scrolled[index] ?? 0;
       if (card.scrollHeight <= card.clientHeight + 2) return;
       // A line over the bars that have no room says how many they are.
-      const all = card.querySelectorAll("[data-order]").length, bar = BAR * unit, top = card.scrollTop + card.lastElementChild.getBoundingClientRect().top - card.getBoundingClientRect().top, whole = Math.floor((card.clientHeight - top - 1.2 * unit) / bar), h = card.clientHeight - top - whole * bar + 1;
+      const all = card.querySelectorAll("[data-order]").length, bar = BAR * unit, top = card.scrollTop + card.lastElementChild.getBoundingClientRect().top - card.getBoundingClientRect().top - card.clientTop, whole = Math.floor((card.clientHeight - top - 1.2 * unit) / bar), h = card.clientHeight - top - whole * bar + 1;
       card.insertAdjacentHTML("beforeend", `<div class="more" style="height: ${h}px; margin-top: -${h}px">${all - whole} more ↓</div>`);
     });
     return undefined;
   }
 
-  showStage(story) {
+  showStage(story, isLast = false) {
     const { model, place, unit: u } = this, main = byId("st-main"), view = byId("st-stage"), narrow = matchMedia(NARROW).matches, style = getComputedStyle(main);
-    const w = main.clientWidth - parseFloat(style.paddingLeft) - parseFloat(style.paddingRight), below = byId("st-cards").hidden ? 0 : byId("st-cards").offsetHeight + 0.5 * u;
+    // Less than a pixel over would make a bar to scroll by.
+    const w = Math.floor(main.getBoundingClientRect().width - parseFloat(style.paddingLeft) - parseFloat(style.paddingRight)) - 1, below = byId("st-cards").hidden ? 0 : byId("st-cards").offsetHeight + 0.5 * u;
     const room = { w, h: narrow ? 0 : main.clientHeight - byId("st-say").offsetHeight - below - 1.2 * u, u };
     const { html, at } = place.mode === "compare" ? compared(model, story, place.step, room) : stage(story, place.step, room), hadFocus = view.contains(document.activeElement) && document.activeElement !== view;
     put(byId("st-grid"), html);
+    const left = byId("st-cards").offsetHeight - (view.scrollHeight - view.clientHeight) - 1;
+    if (!narrow && !isLast && below > 0 && view.scrollHeight > view.clientHeight + 1 && left >= LEAST_CARDS * u) {
+      this.showCards(story, left);
+      this.showStage(story, true);
+      return;
+    }
     if (hadFocus) (view.querySelector('[tabindex="0"]') ?? view).focus({ preventScroll: true });
     const x = place.step ? at.left(place.step - 1) : 0, edge = view.clientWidth - at.gutter;
     if (x < view.scrollLeft || x + at.width(0) * 1.5 > view.scrollLeft + edge) view.scrollLeft = Math.max(0, x - edge * 0.6);

@@ -1,5 +1,5 @@
 // The rows of a story over time, where snapshots look, and what is to hold. Pure.
-import { cut, wide } from "./text.mjs";
+import { cut, fitting, list, wide } from "./text.mjs";
 import { DEFS, M, S, colour, path, r1, rect, svg, text, title } from "./svg.mjs";
 
 const NONE = "–";
@@ -13,19 +13,30 @@ export function keys(story, at) {
   return svg(at.gutter, height(story, at), "rows", (story.views.length ? text(2, at.u, S * u, "row", "soft", "start") : "") + rows.join("") + always.join(""));
 }
 
-/** A key's track: a bar of committed values, and above it, dashed, what is written and not yet committed. */
-function track({ segments, pending }, at, y, now, till) {
-  const { u } = at, bar = at.row - 1.19 * u, parts = [path(`M0 ${r1(y + at.row - 0.03 * u)}H${r1(at.w)}`, "rule")];
+/** The committed values of a key so far: the bar of each, and where its words stand, from `low` to `high`. */
+function valuesOf({ segments }, at, now, till) {
+  const size = M * at.u;
   let before = 0;
-  for (const { from, to, value, t } of segments) {
-    if (t !== null && from >= now) continue;
-    const x = t === null ? 0 : at.mid(from), w = till(0, to) - x || at.pad, isOpening = t === null, words = value ?? NONE, own = wide(words, M * u, 700), base = y + at.row - 0.27 * u;
+  return segments.filter(({ t, from }) => t === null || from < now).map(({ from, to, value, t }) => {
+    const isOpening = t === null, x = isOpening ? 0 : at.mid(from), w = till(0, to) - x || at.pad, words = value ?? NONE, own = wide(words, size, 700), room = Math.max(w - (isOpening ? 6 : 10), at.pad - 8);
+    // At the end of the picture a value stands left of its mark, where it has room.
+    const isLeft = !isOpening && to === null && own > w - 10 && own + 8 < x - before, low = isLeft ? x - 4 - own : x + (isOpening ? 5 : 9);
+    before = x + Math.min(own, room) + 12;
+    return { x, w, t, isLeft, words, said: isLeft ? words : cut(words, room, size, 700), low, high: low + (isLeft ? own : Math.min(own, room)) };
+  });
+}
+
+/** The height over a row's bar. */
+const overBar = (at) => at.row - 1.19 * at.u;
+
+/** A key's track: a bar of committed values, and above it, dashed, what is written and not yet committed. */
+function track(it, at, y, now, till) {
+  const { u } = at, { pending } = it, bar = overBar(at), parts = [path(`M0 ${r1(y + at.row - 0.03 * u)}H${r1(at.w)}`, "rule")], base = y + at.row - 0.27 * u;
+  for (const { x, w, t, isLeft, words, said, low, high } of valuesOf(it, at, now, till)) {
+    const isOpening = t === null;
     parts.push(rect(x, y + bar, Math.max(w, isOpening ? at.pad - 4 : 2) - 1, at.row - bar - 0.05 * u, isOpening ? "seg" : `tint f${colour(t)}`, 2));
     if (!isOpening) parts.push(rect(x, y + bar, 4, at.row - bar - 0.05 * u, `f${colour(t)}`));
-    // At the end of the picture a value stands left of its mark, where it has room.
-    const isLeft = !isOpening && to === null && own > w - 10 && own + 8 < x - before, room = Math.max(w - (isOpening ? 6 : 10), at.pad - 8);
-    parts.push(`<g>${title(words)}${isLeft ? text(x - 4, base, M * u, words, `b f${colour(t)}`, "end") : text(x + (isOpening ? 5 : 9), base, M * u, cut(words, room, M * u, 700), `b ${isOpening ? "" : `f${colour(t)}`}`, "start")}</g>`);
-    before = x + Math.min(own, room) + 12;
+    parts.push(`<g>${title(words)}${text(isLeft ? high : low, base, M * u, said, `b ${isOpening ? "" : `f${colour(t)}`}`, isLeft ? "end" : "start")}</g>`);
   }
   for (const { t, from, to, value, end } of pending) {
     if (from >= now) continue;
@@ -47,11 +58,20 @@ function looks(story, at, now, views) {
   }).join("");
 }
 
-/** The dotted lines at which transactions look that read a snapshot. */
-const looking = (story, at, views) => views.map(({ x, t }, index) => {
-  const { u } = at, room = (views[index + 1]?.x ?? at.w) - x, name = story.names[t], long = `${name}’s view`;
-  return path(`M${r1(x)} ${r1(0.5 * u)}V${r1(at.top + at.row * story.tracks.length)}`, `view s${colour(t)}`) +
-    text(x + 4, u, S * u, wide(long, S * u, 700) < room - 6 ? long : cut(name, room - 4, S * u, 700), `b halo f${colour(t)}`, "start");
+/** What is said at a view: those who look at the same column share it, at the last of their lines. */
+function saidOfView(story, at, views, index) {
+  const { u } = at, own = views.filter((it) => it.at === views[index].at), room = (views[index + 1]?.x ?? at.w) - views[index].x - 6, all = list(own.map(({ t }) => story.names[t]));
+  if (own.at(-1) !== views[index] || room < 2 * u) return own.length > 1 ? "" : fitting([story.names[views[index].t], ""], room, S * u, 700);
+  return fitting(own.length > 1 ? [`views of ${all}`, all] : [`${all}’s view`, all], room, S * u, 700);
+}
+
+/** The dotted lines at which transactions look that read a snapshot: over no value. */
+const looking = (story, at, views, values) => views.map(({ x, t }, index) => {
+  const { u } = at, said = saidOfView(story, at, views, index), isOne = views.filter((it) => it.at === views[index].at).length === 1;
+  const covered = values.flatMap((its, row) => (its.some(({ low, high }) => low - 2 < x && x < high + 2) ? [at.top + at.row * row] : []));
+  const line = covered.map((y) => `V${r1(y + overBar(at))}M${r1(x)} ${r1(y + at.row)}`).join("");
+  return path(`M${r1(x)} ${r1(0.5 * u)}${line}V${r1(at.top + at.row * story.tracks.length)}`, `view s${colour(t)}`) +
+    (said ? text(x + 4, u, S * u, said, `b halo ${isOne ? `f${colour(t)}` : ""}`, "start") : "");
 }).join("");
 
 /** What is to hold, with the values put in: red from the commit on that breaks it. */
@@ -70,11 +90,11 @@ export function tracks(story, at, step) {
   const isEnd = step > at.count, now = Math.min(step, at.count), right = isEnd || now === at.count ? at.w : at.right(now), low = at.top + at.row * (story.tracks.length + story.always.length);
   const till = (_, to) => Math.min(right, to === null || to >= now ? right : at.mid(to));
   const seen = story.views.filter((it) => it.at < now || (it.at === now && isEnd)).sort((one, other) => one.at - other.at);
-  const views = seen.map((it, index) => ({ t: it.t, x: at.left(it.at) + 3 + 5 * seen.slice(0, index).filter((other) => other.at === it.at).length }));
+  const views = seen.map((it, index) => ({ t: it.t, at: it.at, x: at.left(it.at) + 3 + 5 * seen.slice(0, index).filter((other) => other.at === it.at).length }));
   const parts = [DEFS, now > 0 && !isEnd ? rect(at.left(now - 1), 0, at.width(now - 1), low + 4, "band") : ""];
   story.tracks.forEach((it, index) => parts.push(track(it, at, at.top + at.row * index, now, till)));
   if (!isEnd) parts.push(looks(story, at, now, views));
-  parts.push(looking(story, at, views));
+  parts.push(looking(story, at, views, story.tracks.map((it) => valuesOf(it, at, now, till))));
   story.always.forEach((it, index) => parts.push(always(it, at, at.top + at.row * (story.tracks.length + index) + 0.35 * at.u, now, right)));
   return svg(at.w, low + 4, `Rows after ${now} moves`, parts.join(""));
 }

@@ -178,8 +178,10 @@ function placeInOrder({ columns, names, order }) {
 
 // ---- the verdict
 
-/** The kind of a verdict, by its word. */
-export const verdictKind = (word = "") => (/^not ser/.test(word) ? "not" : /another/.test(word) ? "other" : /^serial/.test(word) ? "serial" : "unknown");
+const KINDS = [[/unknown/, "unknown"], [/^(not ser|fails)/, "not"], [/another order/, "other"], [/^(serial|holds)/, "serial"]];
+
+/** The kind of a verdict, by its words in a text or in JSON: of the committed transactions of a run, or of a log. */
+export const verdictKind = (words = "") => KINDS.find(([form]) => form.test(words))?.[1] ?? "unknown";
 
 /** What a verdict is called, by its kind. */
 export const VERDICTS = { not: "not serializable", other: "serializable in another order", serial: "serializable", unknown: "not judged" };

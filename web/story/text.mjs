@@ -40,7 +40,7 @@ export const shown = (text) => String(text).replace(HIDDEN, (it) => (it < " " ? 
 export const esc = (text) => shown(text).replace(/[&<>"']/g, (it) => ENTITIES[it]);
 
 /** What JSON says; a number of more digits than JavaScript keeps is a text. */
-export const parse = (json) => JSON.parse(json.replace(/"(?:[^"\\]|\\.)*"|-?\d{16,}/g, (it) => (it[0] === '"' ? it : `"${it}"`)));
+export const parse = (json) => JSON.parse(json.replace(/"[^"\\]*(?:\\.[^"\\]*)*"|-?\d{16,}/g, (it) => (it[0] === '"' ? it : `"${it}"`)));
 
 /** A whole number, its digits in groups of three. */
 export const grouped = (number) => String(number).replace(/\B(?=(\d{3})+$)/g, ",");

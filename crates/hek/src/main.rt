@@ -2,7 +2,7 @@
 //! status.
 #![tactic(auto)]
 
-use hek_command_line::{SystemDisk, program};
+use hek_command_line::{Settings, Surroundings, SystemDisk, program};
 use std::fs;
 use std::process::ExitCode;
 
@@ -14,13 +14,11 @@ fn main(rt: HostRuntime) -> ExitCode {
     // would mean the opened file. A folder therefore takes that number first: standard input can't be read then, as if
     // it were still closed.
     let _place = fs::open(&rt, FOLDER);
-    let status = program(
-        &rt,
-        &rt,
-        &SystemDisk::new(&rt),
-        rt.stdin(),
-        &mut rt.stdout(),
-        &mut rt.stderr(),
-    );
-    ExitCode::from(status)
+    let given = Surroundings {
+        disk: &SystemDisk::new(&rt),
+        out: &mut rt.stdout(),
+        faults: &mut rt.stderr(),
+        settings: Settings::by_environment(&rt),
+    };
+    ExitCode::from(program(&rt, &rt, rt.stdin(), given))
 }

@@ -52,7 +52,9 @@ fn line_with(
         return Ok(None);
     }
     let mut line = Vec::new(alloc);
-    line.extend_from_slice(b"hek: note: as each level promises; one after another: ")?;
+    line.extend_from_slice(
+        b"hek: note: each transaction got what its level promises; the outcome is ",
+    )?;
     put_phrase(schedule, together, &mut line)?;
     line.push(b'\n')?;
     Ok(Some(line))

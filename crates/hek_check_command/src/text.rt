@@ -33,7 +33,7 @@ fn put_summary(reported: &Reported<'_>, lines: &mut Vec<u8>) -> Result<(), NoMem
     let judged = reported.judged;
     put(write!(lines, " {judged}"))?;
     if let Some(together) = reported.together {
-        put(write!(lines, "; one after another: "))?;
+        put(write!(lines, "; the outcome is "))?;
         put_phrase(reported.schedule, together, lines)?;
     }
     put(writeln!(lines))

@@ -1,241 +1,86 @@
-//! What is wrong with a bad argument and what is wanted in its place, for a reader at a terminal, or with `--explain`.
+//! What is wrong with an argument of the command line: found before a command runs, and said where faults are explained.
+use crate::commands::Command;
+use crate::histories::asked_of;
+use crate::pages::is_log;
+use crate::rows::{Argument, Value};
+use crate::said::{Said, digits};
+use crate::texts::{Text, pair};
 use clap::ArgMatches;
 use hek_diagnostics::nearest_word;
-use hek_levels_command::Promise;
-use hek_permute::Form;
+use hek_levels_command::{Asked, Promise};
 use hek_permute_command::part_of;
-use hek_rules::{Level, number};
-use std::alloc::Global;
-use std::fmt;
-use std::fmt::{Display, Formatter};
+use hek_report::INPUT;
+use hek_rules::number;
+use std::str;
 
-/// An option whose value is a number: its name, what the number is, its range, and what to say of a lesser number.
-struct Count {
-    option: &'static str,
-    what: &'static str,
-    least: u64,
-    most: u64,
-    below: &'static str,
-}
-
-const COUNTS: &[Count] = &[
-    Count {
-        option: "state-at",
-        what: "a number of steps",
-        least: 0,
-        most: u64::MAX,
-        below: "",
-    },
-    Count {
-        option: "limit",
-        what: "how many at most",
-        least: 0,
-        most: u64::MAX,
-        below: "",
-    },
-    Count {
-        option: "effort",
-        what: "how many repairs at most",
-        least: 1,
-        most: u64::MAX,
-        below: "",
-    },
-    Count {
-        option: "jobs",
-        what: "a number of threads",
-        least: 1,
-        most: 1_000,
-        below: "",
-    },
-    Count {
-        option: "turns",
-        what: "a number of turns",
-        least: 0,
-        most: 1_000_000,
-        below: "",
-    },
-    Count {
-        option: "repeat",
-        what: "a number of runs",
-        least: 1,
-        most: 1_000_000,
-        below: "",
-    },
-    Count {
-        option: "seed",
-        what: "a number",
-        least: 0,
-        most: u64::MAX,
-        below: "",
-    },
-    Count {
-        option: "step",
-        what: "a number of steps",
-        least: 0,
-        most: u64::MAX,
-        below: "",
-    },
-    Count {
-        option: "from",
-        what: "a step, the first being 1",
-        least: 1,
-        most: u64::MAX,
-        below: ": steps are counted from 1",
-    },
-    Count {
-        option: "to",
-        what: "a step, the first being 1",
-        least: 1,
-        most: u64::MAX,
-        below: ": steps are counted from 1",
-    },
-    Count {
-        option: "permutation",
-        what: "a permutation, the first being 1",
-        least: 1,
-        most: u64::MAX,
-        below: ": permutations are counted from 1",
-    },
-    Count {
-        option: "clock",
-        what: "a time",
-        least: 0,
-        most: u64::MAX,
-        below: "",
-    },
-    Count {
-        option: "txns",
-        what: "a number of transactions",
-        least: 0,
-        most: u64::MAX,
-        below: "",
-    },
-    Count {
-        option: "readers",
-        what: "a number of readers",
-        least: 0,
-        most: u64::MAX,
-        below: "",
-    },
-];
-
-const LEVELS: &[&str] = &["serializable", "repeatable", "snapshot"];
-
-/// The orders that `hek history` can be asked for.
-const KINDS: &[&str] = &["any", "versions", "commit", "real"];
-
-/// The forms of moves that `hek permute` can be asked for.
-const GRAINS: &[&str] = &["move", "split", "event"];
-
-/// What is wrong with the value of an option.
+/// What is wrong with an option.
 #[derive(Clone, Copy)]
-enum Wrong<'a> {
-    NoNumber(&'a Count),
-    TooSmall(&'a Count),
-    TooLarge(&'a Count),
-    /// No level has this name, but maybe one that is near.
-    NoLevel(Option<&'a str>),
-    /// The same of what a log can be asked for.
-    NoPromise(Option<&'a str>),
+enum Wrong {
+    /// Its number, which is this, from one number to another.
+    NoNumber(&'static str, u64, u64),
+    TooSmall(&'static str, u64, u64),
+    TooLarge(&'static str, u64, u64),
+    /// Nothing of this kind has the name, of which these are the words.
+    NoWord(&'static str, &'static [&'static str], &'static [&'static str]),
     NoPart,
     NoOrder,
-    /// No order of a history has this name, but maybe one that is near.
-    NoKind(Option<&'a str>),
-    /// Levels below a serial order take no order by commits.
+    /// The value goes with a serial order alone: what is wanted in its place.
     NoBinding,
-    /// No form of moves has this name, but maybe one that is near.
-    NoGrain(Option<&'a str>),
+    /// It doesn't go with the other words: why, and what is wanted.
+    Misfit(&'static str, &'static str),
 }
 
-/// An option with a value that is at fault. Its text is a line each: the option with its value, what is wrong
-/// under it, what is wanted, and what is meant, if that is known.
+/// An option that is at fault, with its value: none of a flag.
 #[derive(Clone, Copy)]
 pub struct Advice<'a> {
     option: &'a str,
     value: &'a str,
-    wrong: Wrong<'a>,
+    wrong: Wrong,
 }
 
 /// The first option at fault of a command with these words, if there is one.
-pub fn advice_of<'a>(alloc: Global, command: &str, found: &ArgMatches<'a>) -> Option<Advice<'a>> {
-    for count in COUNTS {
-        if let Some(advice) = on_count(found, count) {
+pub fn advice_of<'a>(command: Command, found: &ArgMatches<'a>) -> Option<Advice<'a>> {
+    for argument in command.row().arguments {
+        if let Some(advice) = advice_on(argument, found) {
             return Some(advice);
         }
     }
-    match found.get_str("level") {
-        Some(value) if Level::named(value.as_bytes()).is_none() => {
-            if command != "history" {
-                let wrong = Wrong::NoLevel(nearest_word(alloc, value, LEVELS));
-                return Some(Advice::new("level", value, wrong));
-            }
-            if Promise::named(value).is_none() {
-                let wrong = Wrong::NoPromise(nearest_word(alloc, value, Promise::WORDS));
-                return Some(Advice::new("level", value, wrong));
-            }
-        }
-        _ => {}
+    if command == Command::History {
+        return misfit_of_log(found);
     }
-    match found.get_str("part") {
-        Some(value) if part_of(value).is_none() => {
-            return Some(Advice::new("part", value, Wrong::NoPart));
-        }
-        _ => {}
+    if command == Command::Page && is_log(found) {
+        return misfit_of_run(found);
     }
-    match found.get_str("grain") {
-        Some(value) if Form::named(value).is_none() => {
-            let wrong = Wrong::NoGrain(nearest_word(alloc, value, GRAINS));
-            return Some(Advice::new("grain", value, wrong));
-        }
-        _ => {}
+    if command == Command::Word && found.get_flag("changes") {
+        return misfit_of_changes(found);
     }
-    let value = found.get_str("order")?;
-    if command == "history" {
-        return kind_advice(alloc, value);
-    }
-    Some(Advice::new("order", value, Wrong::NoOrder))
+    None
 }
 
-/// What is wrong with an order of a history. One that has its name goes with no level that is asked for.
-fn kind_advice(alloc: Global, value: &str) -> Option<Advice<'_>> {
-    let wrong = match value {
-        "any" | "real" => return None,
-        "versions" | "commit" => Wrong::NoBinding,
-        _ => Wrong::NoKind(nearest_of(alloc, value, KINDS)),
+/// What is wrong with the value of an argument, if the words have it.
+fn advice_on<'a>(argument: &'static Argument, found: &ArgMatches<'a>) -> Option<Advice<'a>> {
+    let Argument(option, form, _) = argument;
+    let value = found.get_str(option)?;
+    let wrong = match form.value()? {
+        Value::Number(what, least, most) => wrong_number(value, what, least, most)?,
+        Value::Words(noun, words, more) if !is_among(value, words) && !is_among(value, more) => {
+            Wrong::NoWord(noun, words, more)
+        }
+        Value::Part if part_of(value).is_none() => Wrong::NoPart,
+        Value::File | Value::Text | Value::Words(_, _, _) | Value::OneOf(_) | Value::Part =>
+            return None,
     };
-    Some(Advice::new("order", value, wrong))
+    Some(Advice::new(option, value, wrong))
 }
 
-/// The word of these that another may mean.
-fn nearest_of(alloc: Global, value: &str, known: &'static [&'static str]) -> Option<&'static str> {
-    let mut words: Vec<&'static str> = Vec::new(alloc);
-    for word in known {
-        words.push(*word).ok()?;
+fn wrong_number(value: &str, what: &'static str, least: u64, most: u64) -> Option<Wrong> {
+    match number(value.as_bytes()) {
+        None if is_digits(value) => Some(Wrong::TooLarge(what, least, most)),
+        None => Some(Wrong::NoNumber(what, least, most)),
+        Some(given) if given < least => Some(Wrong::TooSmall(what, least, most)),
+        Some(given) if given > most => Some(Wrong::TooLarge(what, least, most)),
+        Some(_) => None,
     }
-    nearest_word(alloc, value, words.as_slice())
-}
-
-/// What is wrong with the number of an option, if the command line has the option.
-fn on_count<'a>(found: &ArgMatches<'a>, count: &'static Count) -> Option<Advice<'a>> {
-    let value = found.get_str(count.option)?;
-    let wrong = match number(value.as_bytes()) {
-        None if is_digits(value) => Wrong::TooLarge(count),
-        None => Wrong::NoNumber(count),
-        Some(given) if given < count.least => Wrong::TooSmall(count),
-        Some(given) if given > count.most => Wrong::TooLarge(count),
-        Some(_) => return None,
-    };
-    Some(Advice::new(count.option, value, wrong))
-}
-
-/// Whether the value of an option is a number.
-pub fn is_count(option: &str) -> bool {
-    for count in COUNTS {
-        if count.option == option {
-            return true;
-        }
-    }
-    false
 }
 
 /// Whether a text has decimal digits alone, at least one.
@@ -243,8 +88,95 @@ fn is_digits(text: &str) -> bool {
     !text.is_empty() && text.as_bytes().iter().all(|byte| byte.is_ascii_digit())
 }
 
+fn is_among(word: &str, words: &[&str]) -> bool {
+    for one in words {
+        if *one == word {
+            return true;
+        }
+    }
+    false
+}
+
+const UNBOUND: Wrong = Wrong::Misfit(
+    "sessions bind at no level of this name",
+    "another level, or no --sessions",
+);
+
+const UNORDERED: Wrong = Wrong::Misfit(
+    "a guarantee is about sessions, and has no order",
+    "no --order",
+);
+
+const OF_ORDERS: Wrong = Wrong::Misfit(
+    "this goes with a serial order alone",
+    "serializable, repeatable or snapshot as the level",
+);
+
+const OF_RUNS: Wrong = Wrong::Misfit(
+    "this asks something of a run, and a log has none",
+    "a schedule as FILE, and --text if its name ends as that of a log",
+);
+
+const OF_INPUT: Wrong = Wrong::Misfit(
+    "exchanges are read from standard input",
+    "- as the only word",
+);
+
+/// What doesn't go with the levels or guarantees that a log is asked for.
+fn misfit_of_log<'a>(found: &ArgMatches<'a>) -> Option<Advice<'a>> {
+    let level = found.get_str("level").unwrap_or("");
+    if found.get_flag("sessions") && !level.is_empty() && Promise::named(level).is_none() {
+        return Some(Advice::new("level", level, UNBOUND));
+    }
+    let asked = asked_of(found)?;
+    match found.get_str("order") {
+        Some(value) if is_guarantee(asked) => return Some(Advice::new("order", value, UNORDERED)),
+        Some(value) if value == "versions" || value == "commit" => {
+            return Some(Advice::new("order", value, Wrong::NoBinding));
+        }
+        _ => {}
+    }
+    for option in ["all", "order-out"] {
+        if let Some(value) = found.get_str(option) {
+            return Some(Advice::new(option, value, OF_ORDERS));
+        }
+    }
+    None
+}
+
+/// Whether one guarantee of sessions is asked for.
+fn is_guarantee(asked: Asked) -> bool {
+    match asked {
+        Asked::One(promise) => promise.is_guarantee(),
+        Asked::Levels | Asked::Guarantees | Asked::Both => false,
+    }
+}
+
+/// What the words ask of a run of the machine, which a log doesn't have.
+fn misfit_of_run<'a>(found: &ArgMatches<'a>) -> Option<Advice<'a>> {
+    for option in ["auto", "orders", "levels", "split", "machine"] {
+        if found.get_flag(option) {
+            return Some(Advice::new(option, "", OF_RUNS));
+        }
+    }
+    for option in ["level", "from", "to", "grain", "limit"] {
+        if let Some(value) = found.get_str(option) {
+            return Some(Advice::new(option, value, OF_RUNS));
+        }
+    }
+    None
+}
+
+/// Words beside `-`, from where exchanges are read.
+fn misfit_of_changes<'a>(found: &ArgMatches<'a>) -> Option<Advice<'a>> {
+    match found.get_strs("WORD") {
+        Some([one]) if *one == INPUT => None,
+        _ => Some(Advice::new("changes", "", OF_INPUT)),
+    }
+}
+
 impl<'a> Advice<'a> {
-    fn new(option: &'a str, value: &'a str, wrong: Wrong<'a>) -> Advice<'a> {
+    fn new(option: &'a str, value: &'a str, wrong: Wrong) -> Advice<'a> {
         Advice {
             option,
             value,
@@ -252,74 +184,96 @@ impl<'a> Advice<'a> {
         }
     }
 
-    fn write_wrong<W: fmt::Write>(&self, f: &mut Formatter<W>) -> fmt::Result {
+    /// That the value of `--order` is no order of the moves.
+    pub fn of_order(value: &'a str) -> Advice<'a> {
+        Advice::new("order", value, Wrong::NoOrder)
+    }
+
+    /// Says what is wrong, what is wanted and what is meant.
+    pub fn say(self, said: &mut Said) {
         let option = self.option;
         let value = self.value;
-        match self.wrong {
-            Wrong::NoNumber(_) => {
-                write!(
-                    f,
-                    "`--{option}` wants a number, and `{value}` is not a number"
-                )
-            }
-            Wrong::TooSmall(count) => {
-                write!(f, "`{value}` is too small for `--{option}`{}", count.below)
-            }
-            Wrong::TooLarge(_) => write!(f, "`{value}` is too large for `--{option}`"),
-            Wrong::NoLevel(_) | Wrong::NoPromise(_) => { write!(f, "no level is called `{value}`") }
-            Wrong::NoPart => write!(f, "`{value}` is not a part"),
-            Wrong::NoOrder => write!(f, "`{value}` is not an order of the moves"),
-            Wrong::NoKind(_) => write!(f, "no order is called `{value}`"),
-            Wrong::NoBinding => write!(f, "`{value}` goes with a serial order alone"),
-            Wrong::NoGrain(_) => write!(f, "no grain is called `{value}`"),
+        if value.is_empty() && matches!(self.wrong, Wrong::Misfit(_, _)) {
+            said.carets("--@", &[option], 0, option.len().saturating_add(2));
+        } else {
+            let before = option.chars().count().saturating_add(3);
+            said.carets("--@ @", &[option, value], before, value.chars().count());
         }
-    }
-
-    fn write_wanted<W: fmt::Write>(&self, f: &mut Formatter<W>) -> fmt::Result {
         match self.wrong {
-            Wrong::NoNumber(count) | Wrong::TooSmall(count) | Wrong::TooLarge(count) => {
-                write!(f, "{}, {} to {}", count.what, count.least, count.most)
+            Wrong::NoNumber(what, least, most) => {
+                said.message(
+                    "`--@` wants a number, and `@` is not a number",
+                    &[option, value],
+                );
+                say_range(said, what, least, most);
             }
-            Wrong::NoLevel(_) => f.write_str("serializable repeatable snapshot"),
-            Wrong::NoPromise(_) => {
-                for word in Promise::WORDS {
-                    write!(f, "{word} ")?;
-                }
-                f.write_str("repeatable")
+            Wrong::TooSmall(what, least, most) => {
+                said.message(too_small(what), &pair(value, option));
+                say_range(said, what, least, most);
             }
-            Wrong::NoPart => f.write_str("K/N, as in `1/3`, K from 1 to N"),
-            Wrong::NoOrder => f.write_str("the name of its transaction for each move"),
-            Wrong::NoKind(_) => f.write_str("any versions commit real"),
-            Wrong::NoBinding => f.write_str("any real"),
-            Wrong::NoGrain(_) => f.write_str("move split event"),
-        }
-    }
-}
-
-impl Display for Advice<'_> {
-    fn fmt<W: fmt::Write>(&self, f: &mut Formatter<W>) -> fmt::Result {
-        write!(f, "  | --{} {}\n  |   ", self.option, self.value)?;
-        put(f, ' ', self.option.chars().count())?;
-        f.write_str(" ")?;
-        put(f, '^', self.value.chars().count().max(1))?;
-        f.write_str(" ")?;
-        self.write_wrong(f)?;
-        f.write_str("\n  | wanted: ")?;
-        self.write_wanted(f)?;
-        match self.wrong {
-            Wrong::NoLevel(Some(meant))
-            | Wrong::NoPromise(Some(meant))
-            | Wrong::NoKind(Some(meant))
-            | Wrong::NoGrain(Some(meant)) => { write!(f, "\n  | did you mean `{meant}`?\n") }
-            _ => f.write_str("\n"),
+            Wrong::TooLarge(what, least, most) => {
+                said.message("`@` is too large for `--@`", &[value, option]);
+                say_range(said, what, least, most);
+            }
+            Wrong::NoWord(noun, words, more) => {
+                said.message("no @ is called `@`", &pair(noun, value));
+                say_words(said, value, words, more);
+            }
+            Wrong::NoPart => {
+                said.message("`@` is not a part", &[value]);
+                said.wanted("K/N, as in `1/3`, K from 1 to N", &[]);
+            }
+            Wrong::NoOrder => {
+                said.message("`@` is not an order of the moves", &[value]);
+                said.wanted("the name of its transaction for each move", &[]);
+            }
+            Wrong::NoBinding => {
+                said.message("`@` goes with a serial order alone", &[value]);
+                said.wanted("any real", &[]);
+            }
+            Wrong::Misfit(why, wanted) => {
+                said.message("@", &[why]);
+                said.wanted("@", &[wanted]);
+            }
         }
     }
 }
 
-/// Writes a character so many times.
-fn put<W: fmt::Write>(f: &mut Formatter<W>, mark: char, times: usize) -> fmt::Result {
-    for _ in 0..times {
-        f.write_char(mark)?;
+/// What is said of a number below the least one.
+fn too_small(what: &str) -> &'static str {
+    if what.starts_with("a step") {
+        "`@` is too small for `--@`: steps are counted from 1"
+    } else {
+        "`@` is too small for `--@`"
     }
-    Ok(())
+}
+
+fn say_range(said: &mut Said, what: &str, least: u64, most: u64) {
+    let least = digits(said.alloc, least);
+    let most = digits(said.alloc, most);
+    said.wanted("@, @ to @", &[&*what, least.as_str(), most.as_str()]);
+}
+
+/// Says which words are wanted, and which one may be meant.
+fn say_words(said: &mut Said, value: &str, words: &[&'static str], more: &[&'static str]) {
+    let mut all = Vec::new(said.alloc);
+    let is_short = all.extend_from_slice(words).is_err() || all.extend_from_slice(more).is_err();
+    if is_short {
+        return said.lines.lack_memory();
+    }
+    say_list(said, all.as_slice());
+    if let Some(meant) = nearest_word(said.alloc, value, all.as_slice()) {
+        said.meant("@", &[meant]);
+    }
+}
+
+fn say_list(said: &mut Said, words: &[&str]) {
+    let mut list = Text::new(said.alloc);
+    list.words(words);
+    let Ok(bytes) = list.take() else {
+        return said.lines.lack_memory();
+    };
+    if let Ok(list) = str::from_utf8(bytes.as_slice()) {
+        said.wanted("@", &[list]);
+    }
 }

@@ -1,12 +1,11 @@
 //! Colours of a terminal: replies by their kinds, and what is at fault.
-use std::alloc::Global;
-use std::io;
-use std::io::{IsTerminal, Write};
 
 /// Which lines are in colours.
 #[derive(Clone, Copy)]
 pub enum Paint {
     None,
+    /// None, and they are no text, but an image.
+    Image,
     /// Lines with a reply: the reply, by its kind.
     Replies,
     /// Lines of a fault: its first line, and the carets with what they say.
@@ -15,7 +14,7 @@ pub enum Paint {
 
 /// A colour, by its number in an escape sequence.
 #[derive(Clone, Copy)]
-enum Colour {
+pub enum Colour {
     Red,
     Green,
     Yellow,
@@ -23,7 +22,7 @@ enum Colour {
 
 impl Colour {
     /// What begins the colour.
-    fn front(self) -> &'static [u8] {
+    pub fn front(self) -> &'static [u8] {
         match self {
             Colour::Red => b"\x1b[31m",
             Colour::Green => b"\x1b[32m",
@@ -33,7 +32,7 @@ impl Colour {
 }
 
 /// What ends a colour.
-const PLAIN: &[u8] = b"\x1b[0m";
+pub const PLAIN: &[u8] = b"\x1b[0m";
 
 /// What stands between an event and its reply.
 const ARROW: &[u8] = b" -> ";
@@ -57,79 +56,19 @@ const COLOURS: [(&[u8], Colour); 7] = [
     (b"committed", Colour::Green),
 ];
 
-/// An output whose lines are in colours. A line goes out once it ends, or when the output is flushed.
-#[derive(Drop)]
-pub struct Painted<'o, W: Write> {
-    out: &'o mut W,
-    paint: Paint,
-    line: Vec<u8>,
-}
-
-impl<'o, W: Write> Painted<'o, W> {
-    /// An output over this one.
-    pub fn new(alloc: Global, out: &'o mut W, paint: Paint) -> Painted<'o, W> {
-        Painted {
-            out,
-            paint,
-            line: Vec::new(alloc),
-        }
-    }
-
-    /// Writes the line that is there, in colours.
-    fn send(&mut self) -> io::Result<()> {
-        let line = self.line.as_slice();
-        let part = match self.paint {
-            Paint::None => None,
+impl Paint {
+    /// Where the part of a line begins that is in a colour, and which.
+    pub fn part_of(self, line: &[u8]) -> Option<(usize, Colour)> {
+        match self {
+            Paint::None | Paint::Image => None,
             Paint::Replies => reply_in(line),
             Paint::Faults => fault_in(line),
-        };
-        match part {
-            None => self.out.write_all(line)?,
-            Some((start, colour)) => {
-                let (front, rest) = line.split_at(start.min(line.len()));
-                let (part, end) = rest.split_at(end_of(rest).min(rest.len()));
-                self.out.write_all(front)?;
-                self.out.write_all(colour.front())?;
-                self.out.write_all(part)?;
-                self.out.write_all(PLAIN)?;
-                self.out.write_all(end)?;
-            }
         }
-        self.line.clear();
-        Ok(())
-    }
-}
-
-impl<W: Write> Write for Painted<'_, W> {
-    fn write(&mut self, buf: &[u8]) -> io::Result<usize> {
-        if matches!(self.paint, Paint::None) {
-            return self.out.write(buf);
-        }
-        for byte in buf {
-            self.line.extend_from_slice(&[*byte])?;
-            if *byte == b'\n' {
-                self.send()?;
-            }
-        }
-        Ok(buf.len())
-    }
-
-    fn flush(&mut self) -> io::Result<()> {
-        if !self.line.is_empty() {
-            self.send()?;
-        }
-        self.out.flush()
-    }
-}
-
-impl<W: Write + IsTerminal> IsTerminal for Painted<'_, W> {
-    fn is_terminal(&self) -> bool {
-        self.out.is_terminal()
     }
 }
 
 /// How long a line is without its line feed.
-fn end_of(line: &[u8]) -> usize {
+pub fn end_of(line: &[u8]) -> usize {
     match line {
         [front @ .., b'\n'] => front.len(),
         line => line.len(),

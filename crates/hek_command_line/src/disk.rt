@@ -1,10 +1,9 @@
 //! The files that commands read and write.
-ghost use Rattle.std.specs.Prelude.{IfErr};
-ghost use Rattle.hek_report.specs.Files.{ReadFails};
-
-use hek_report::{HekFault, INPUT, read_fault};
+use crate::kept::Kept;
+use crate::streams::Stream;
+use hek_report::HekFault;
 use std::io;
-use std::io::{Read, Write};
+use std::io::{IsTerminal, Read, Write};
 
 /// Opens files by their names.
 pub trait Disk {
@@ -44,40 +43,22 @@ impl<I: Read + Drop, F: Read + Drop> Read for InputFile<I, F> {
     }
 }
 
-/// Opens a file to read it. `-` is the input, which can be opened once.
-pub fn open<'a, I: Read + Drop, D: Disk>(
-    disk: &D,
-    input: &mut Option<I>,
-    name: &'a str,
-) -> Result<InputFile<I, D::Reader>, HekFault<'a>>
-    ensures { IfErr result (ReadFails name.now) }
-{
-    if name == INPUT {
-        return match input.take() {
-            Some(input) => Ok(InputFile::Input(input)),
-            None => Err(HekFault::CannotRead(name)),
-        };
-    }
-    match disk.open(name) {
-        Ok(file) => Ok(InputFile::File(file)),
-        Err(error) => Err(read_fault(error.kind(), name)),
-    }
-}
-
 /// A file that is begun at its first write, and not before. It gets its name when it is kept.
 #[derive(Drop)]
-pub struct LateFile<'a, D: Disk> {
-    disk: &'a D,
+pub struct LateFile<'c, 'k, 'a, D: Disk> {
+    disk: &'c D,
     name: &'a str,
+    kept: &'k Kept<'a>,
     file: Option<D::Writer>,
 }
 
-impl<'a, D: Disk> LateFile<'a, D> {
-    /// A file with this name that isn't begun yet.
-    pub fn new(disk: &'a D, name: &'a str) -> LateFile<'a, D> {
+impl<'c, 'k, 'a, D: Disk> LateFile<'c, 'k, 'a, D> {
+    /// A file with this name that isn't begun yet. Why it can't be written is noted.
+    pub fn new(disk: &'c D, name: &'a str, kept: &'k Kept<'a>) -> LateFile<'c, 'k, 'a, D> {
         LateFile {
             disk,
             name,
+            kept,
             file: None,
         }
     }
@@ -89,21 +70,40 @@ impl<'a, D: Disk> LateFile<'a, D> {
         is_whole: bool,
         ran: Result<u8, HekFault<'f>>,
     ) -> Result<u8, HekFault<'f>> {
-        let LateFile { disk, name, file } = self;
+        let LateFile {
+            disk,
+            name,
+            kept,
+            file,
+        } = self;
         if !is_whole {
             if let Some(file) = file {
                 disk.discard(file);
             }
             return ran;
         }
-        let kept = match file {
+        let settled = match file {
             Some(file) => disk.keep(file),
             None => keep_empty(disk, name),
         };
-        match kept {
+        match settled {
             Ok(()) => ran,
-            Err(_) => Err(HekFault::CannotWrite),
+            Err(error) => {
+                kept.note(error.kind());
+                Err(HekFault::CannotWrite)
+            }
         }
+    }
+
+    /// Writes to the file, which is begun now if it isn't yet.
+    fn put(&mut self, buf: &[u8]) -> io::Result<()> {
+        if let Some(file) = &mut self.file {
+            return file.write_all(buf);
+        }
+        let mut file = self.disk.create(self.name)?;
+        let written = file.write_all(buf);
+        self.file = Some(file);
+        written
     }
 }
 
@@ -113,21 +113,85 @@ fn keep_empty<D: Disk>(disk: &D, name: &str) -> io::Result<()> {
     disk.keep(file)
 }
 
-impl<D: Disk> Write for LateFile<'_, D> {
+impl<D: Disk> Write for LateFile<'_, '_, '_, D> {
     fn write(&mut self, buf: &[u8]) -> io::Result<usize> {
-        if let Some(file) = &mut self.file {
-            return file.write(buf);
+        match self.put(buf) {
+            Ok(()) => Ok(buf.len()),
+            Err(error) => {
+                self.kept.note(error.kind());
+                Err(error)
+            }
         }
-        let mut file = self.disk.create(self.name)?;
-        let written = file.write(buf);
-        self.file = Some(file);
-        written
+    }
+
+    fn flush(&mut self) -> io::Result<()> {
+        let flushed = match &mut self.file {
+            Some(file) => file.flush(),
+            None => Ok(()),
+        };
+        if let Err(error) = &flushed {
+            self.kept.note(error.kind());
+        }
+        flushed
+    }
+}
+
+/// Where a command writes: to memory, if what it writes goes on from there; otherwise to a file, if the words name one; otherwise
+/// to standard output.
+#[derive(Drop)]
+pub struct Output<'c, 'k, 'a, D: Disk, W: Write> {
+    pub stream: Stream<'c, W>,
+    pub file: Option<LateFile<'c, 'k, 'a, D>>,
+    pub memory: Option<Vec<u8>>,
+}
+
+impl<'c, 'k, 'a, D: Disk, W: Write> Output<'c, 'k, 'a, D, W> {
+    /// Standard output.
+    pub fn new(stream: Stream<'c, W>) -> Output<'c, 'k, 'a, D, W> {
+        Output {
+            stream,
+            file: None,
+            memory: None,
+        }
+    }
+
+    /// Keeps the file that the words name, if they do, where a command wrote what it should. Answers what came of the command.
+    pub fn settle<'f>(
+        &mut self,
+        is_whole: bool,
+        ran: Result<u8, HekFault<'f>>,
+    ) -> Result<u8, HekFault<'f>> {
+        match self.file.take() {
+            Some(file) => file.settle(is_whole, ran),
+            None => ran,
+        }
+    }
+}
+
+impl<D: Disk, W: Write> Write for Output<'_, '_, '_, D, W> {
+    fn write(&mut self, buf: &[u8]) -> io::Result<usize> {
+        if let Some(memory) = &mut self.memory {
+            return memory.write(buf);
+        }
+        match &mut self.file {
+            Some(file) => {
+                self.stream.write_to(buf, file)?;
+                Ok(buf.len())
+            }
+            None => self.stream.write(buf),
+        }
     }
 
     fn flush(&mut self) -> io::Result<()> {
         match &mut self.file {
             Some(file) => file.flush(),
-            None => Ok(()),
+            None => self.stream.flush(),
         }
+    }
+}
+
+impl<D: Disk, W: Write + IsTerminal> IsTerminal for Output<'_, '_, '_, D, W> {
+    fn is_terminal(&self) -> bool {
+        self.stream.is_terminal()
     }
 }

@@ -1,129 +1,31 @@
-//! What follows the line of a fault where standard error is a terminal, or with `--explain`: what is wrong, what is wanted
-//! and what is meant.
-use crate::advice::advice_of;
-use crate::kept::Kept;
-use crate::notes::note;
+//! What follows a command: the line of its fault, with what is wrong, what is wanted and what is meant where that is asked for, and
+//! the fault as an object of JSON; or notes.
+use crate::advice::{Advice, advice_of};
+use crate::call::{Answer, Call};
+use crate::disk::Disk;
+use crate::lock_words::advise_words;
 use crate::opening::without_mark;
-use crate::output::NotedOutput;
 use crate::programs::{explain_line, explain_place};
 use crate::reasons::{why_not_read, why_not_written};
+use crate::said::Said;
 use crate::sought::advise_sought;
-use crate::words::advise_words;
-use clap::ArgMatches;
 use hek_diagnostics::{explain_bytes, explain_image, explain_trace};
 use hek_image::LoadFault;
-use hek_report::{HekFault, INPUT, ScheduleFile, report, schedule_in};
+use hek_report::{HekFault, ScheduleFile, report, schedule_in};
 use hek_rules::Schedule;
 use std::alloc::Global;
-use std::io::{Cursor, ErrorKind, Write};
+use std::io::{Cursor, ErrorKind, Read, Write};
 use std::str;
 
-/// The exit status after a command, whose fault is reported, and explained where that is wanted. That its output's reader has
-/// left is no fault.
-pub fn finish<W: Write, E: Write>(
-    alloc: Global,
-    ran: Result<u8, HekFault<'_>>,
-    matches: &ArgMatches<'_>,
-    kept: &Kept<'_>,
-    out: &NotedOutput<'_, W>,
-    faults: &mut E,
-) -> u8 {
-    match ran {
-        Ok(status) => {
-            if kept.explains && status == 0 {
-                note_of(alloc, matches, kept, faults);
-            }
-            status
-        }
-        Err(HekFault::CannotWrite) if out.has_lost_reader() => 0,
-        Err(HekFault::CannotWrite) if kept.failure() == Some(ErrorKind::OutOfMemory) => {
-            kept.status_after(report(HekFault::NoMemory, faults))
-        }
-        Err(fault) => {
-            let status = report(fault, faults);
-            if kept.explains && kept.is_whole() {
-                explain(alloc, fault, matches, kept, out.failure(), faults);
-            }
-            kept.status_after(status)
-        }
-    }
-}
+/// The exit status of a fault, where 1 isn't.
+const AT_FAULT: u8 = 4;
 
-/// Notes what comes to nothing in a command that had no fault.
-fn note_of<E: Write>(alloc: Global, matches: &ArgMatches<'_>, kept: &Kept<'_>, faults: &mut E) {
-    if let Some((command, found)) = matches.subcommand() {
-        note(alloc, command, found, kept, faults);
-    }
-}
-
-/// Explains a fault, as far as something is known of it. What can't be written is left out.
-fn explain<E: Write>(
-    alloc: Global,
-    fault: HekFault<'_>,
-    matches: &ArgMatches<'_>,
-    kept: &Kept<'_>,
-    failure: Option<ErrorKind>,
-    faults: &mut E,
-) {
-    match fault {
-        HekFault::BadArgument => advise(alloc, matches, kept, faults),
-        HekFault::Line { line, kind } => {
-            let bytes = kept.file_bytes(alloc);
-            let name = kept.file.unwrap_or("");
-            explain_line(alloc, matches, name, bytes.as_slice(), line, kind, faults);
-        }
-        HekFault::Wanted {
-            line,
-            column,
-            wanted,
-        } => {
-            let bytes = kept.file_bytes(alloc);
-            let name = kept.file.unwrap_or("");
-            explain_place(name, bytes.as_slice(), line, column, wanted, faults);
-        }
-        HekFault::Image(LoadFault::Read) => why_not_read(kept.file.unwrap_or(""), kept, faults),
-        HekFault::Image(fault) => image(alloc, fault, kept, faults),
-        HekFault::TraceLine(line) => trace(alloc, line, kept, faults),
-        HekFault::NotText => not_text(alloc, kept, faults),
-        HekFault::CannotRead(name) if name == INPUT && kept.is_input_twice() => {
-            let _ = writeln!(
-                faults,
-                "  | `-` is given twice, and standard input can be read once"
-            );
-        }
-        HekFault::CannotRead(name) => why_not_read(name, kept, faults),
-        HekFault::CannotWrite => {
-            if let Some((_, found)) = matches.subcommand() {
-                why_not_written(failure, found, kept, faults);
-            }
-        }
-        _ => {}
-    }
-}
-
-/// Says what is wrong with an argument.
-fn advise<E: Write>(alloc: Global, matches: &ArgMatches<'_>, kept: &Kept<'_>, faults: &mut E) {
-    let Some((command, found)) = matches.subcommand() else {
-        return;
-    };
-    match (advice_of(alloc, command, found), found.get_str("find")) {
-        (Some(advice), _) => {
-            let _ = write!(faults, "{advice}");
-        }
-        (None, Some(text)) => {
-            let schedule = schedule_of(alloc, kept.file_bytes(alloc));
-            advise_sought(alloc, text, schedule.as_ref(), faults);
-        }
-        (None, None) => {}
-    }
-    advise_words(command, found, faults);
-}
-
-fn image<E: Write>(alloc: Global, fault: LoadFault, kept: &Kept<'_>, faults: &mut E) {
-    let bytes = kept.file_bytes(alloc);
-    let name = kept.file.unwrap_or("");
-    if let Some(found) = explain_image(name, bytes.as_slice(), fault) {
-        let _ = write!(faults, "{found}");
+/// The exit status after a fault: 4 in place of 1 where 1 is an answer.
+pub fn status_at_fault(status: u8, asks: bool) -> u8 {
+    if asks && status == 1 {
+        AT_FAULT
+    } else {
+        status
     }
 }
 
@@ -139,31 +41,182 @@ pub fn schedule_of(alloc: Global, bytes: Vec<u8>) -> Option<Schedule> {
     schedule_in(alloc, file).ok()
 }
 
-fn trace<E: Write>(alloc: Global, line: u64, kept: &Kept<'_>, faults: &mut E) {
-    let Some(schedule) = schedule_of(alloc, kept.file_bytes(alloc)) else {
-        return;
-    };
-    let bytes = kept.other_bytes(alloc);
-    let name = kept.other.unwrap_or("");
-    let text = without_mark(bytes.as_slice());
-    if let Ok(Some(found)) = explain_trace(alloc, name, &schedule, text, line) {
-        let _ = write!(faults, "{found}");
+impl<'a, D: Disk, I: Read + Drop, W: Write, E: Write> Call<'_, '_, '_, 'a, D, I, W, E> {
+    /// The exit status after what came of the command, whose fault is reported. That the reader of its output has left is no
+    /// fault.
+    pub fn finish(&mut self, ran: Answer<'a>) -> u8 {
+        let status = match ran {
+            Ok(status) => self.end_well(status),
+            Err(HekFault::CannotWrite) if self.out.stream.has_lost_reader() => 0,
+            Err(HekFault::CannotWrite) if self.lacks_memory() => self.report(HekFault::NoMemory),
+            Err(fault) => self.report(fault),
+        };
+        let _ = self.out.flush();
+        let _ = self.faults.flush();
+        status
+    }
+
+    /// Whether memory ran out where something was written.
+    fn lacks_memory(&self) -> bool {
+        let short = Some(ErrorKind::OutOfMemory);
+        self.kept.failure() == short || self.out.stream.failure() == short
+    }
+
+    /// Notes what comes to nothing; of a fault that the command itself told has the object written.
+    fn end_well(&mut self, status: u8) -> u8 {
+        if self.explains && status == 0 {
+            self.note();
+        }
+        if self.flag("json") {
+            if let Some(fault) = self.faults.fault() {
+                let mut said = Said::new(self.alloc, status, fault);
+                self.put_object(&mut said);
+            }
+        }
+        status
+    }
+
+    /// Writes the line of a fault, and what is said of it. Answers the exit status.
+    fn report(&mut self, fault: HekFault<'a>) -> u8 {
+        let status = report(fault, &mut self.faults);
+        let status = status_at_fault(status, self.command.asks(self.found));
+        let is_json = self.flag("json");
+        if !self.explains && !is_json {
+            return status;
+        }
+        let alloc = self.alloc;
+        let Ok(line) = format!(in alloc; "{fault}") else {
+            return status;
+        };
+        let line = line.as_str();
+        let mut said = Said::new(alloc, status, line.strip_prefix("hek: ").unwrap_or(line));
+        if self.kept.is_whole() {
+            self.explain(fault, &mut said);
+        }
+        if self.explains {
+            self.put_lines(&mut said);
+        }
+        if is_json {
+            self.put_object(&mut said);
+        }
+        status
+    }
+
+    /// Writes the lines of what is said. What can't be written is left out.
+    fn put_lines(&mut self, said: &mut Said) {
+        if let Ok(lines) = said.lines.take() {
+            let _ = self.faults.write_all(lines.as_slice());
+        }
+    }
+
+    /// Writes the object of a fault. What can't be written is left out.
+    fn put_object(&mut self, said: &mut Said) {
+        if let Ok(object) = said.take_object() {
+            let _ = self.out.write_all(object.as_slice());
+        }
+    }
+
+    /// Explains a fault, as far as something is known of it.
+    fn explain(&self, fault: HekFault<'_>, said: &mut Said) {
+        match fault {
+            HekFault::BadArgument => self.explain_argument(said),
+            HekFault::Line { line, kind } => {
+                let bytes = self.kept.file_bytes(self.alloc);
+                let text = without_mark(bytes.as_slice());
+                explain_line(
+                    self.command,
+                    self.found,
+                    self.kept.name(),
+                    text,
+                    line,
+                    kind,
+                    said,
+                );
+            }
+            HekFault::Wanted {
+                line,
+                column,
+                wanted,
+            } => {
+                let bytes = self.kept.file_bytes(self.alloc);
+                let text = without_mark(bytes.as_slice());
+                explain_place(self.kept.name(), text, line, column, wanted, said);
+            }
+            HekFault::Image(LoadFault::Read) => why_not_read(self.kept.name(), self.kept, said),
+            HekFault::Image(fault) => self.explain_image(fault, said),
+            HekFault::TraceLine(line) => self.explain_trace(line, said),
+            HekFault::NotText => self.explain_bytes(said),
+            HekFault::CannotRead(name) => why_not_read(name, self.kept, said),
+            HekFault::CannotWrite => {
+                why_not_written(self.out.stream.failure(), self.found, self.kept, said);
+            }
+            HekFault::NotAWord
+            | HekFault::NoReader
+            | HekFault::BadWaits
+            | HekFault::CommandLine(_)
+            | HekFault::NoWorker
+            | HekFault::Mismatch(_)
+            | HekFault::NoMemory => {}
+        }
+    }
+
+    /// Says what is wrong with an argument.
+    fn explain_argument(&self, said: &mut Said) {
+        if let Some(advice) = advice_of(self.command, self.found) {
+            advice.say(said);
+        } else if let Some(text) = self.given("find") {
+            let schedule = schedule_of(self.alloc, self.kept.file_bytes(self.alloc));
+            advise_sought(text, schedule.as_ref(), said);
+        } else if let Some(value) = self.given("order") {
+            Advice::of_order(value).say(said);
+        } else {
+            advise_words(self.found, said);
+        }
+    }
+
+    fn explain_image(&self, fault: LoadFault, said: &mut Said) {
+        let bytes = self.kept.file_bytes(self.alloc);
+        let name = self.kept.name();
+        said.file(name);
+        if let Some(found) = explain_image(name, bytes.as_slice(), fault) {
+            let alloc = self.alloc;
+            said.shown(format!(in alloc; "{found}"));
+        }
+    }
+
+    fn explain_trace(&self, line: u64, said: &mut Said) {
+        let alloc = self.alloc;
+        let Some(schedule) = schedule_of(alloc, self.kept.file_bytes(alloc)) else {
+            return;
+        };
+        let bytes = self.kept.other_bytes(alloc);
+        let name = self.kept.other.unwrap_or("");
+        let text = without_mark(bytes.as_slice());
+        if let Ok(Some(found)) = explain_trace(alloc, name, &schedule, text, line) {
+            said.shown(format!(in alloc; "{found}"));
+            said.diagnostic(name, &found);
+        }
+    }
+
+    /// Says what the file looks like that is not a text.
+    fn explain_bytes(&self, said: &mut Said) {
+        let other = self.kept.other_bytes(self.alloc);
+        match (self.kept.other, self.kept.file) {
+            (Some(name), _) if str::from_utf8(other.as_slice()).is_err() => {
+                put_looks(name, other.as_slice(), false, said);
+            }
+            (_, Some(name)) => {
+                let bytes = self.kept.file_bytes(self.alloc);
+                put_looks(name, bytes.as_slice(), true, said);
+            }
+            (_, None) => {}
+        }
     }
 }
 
-/// Says what the file looks like that is not a text.
-fn not_text<E: Write>(alloc: Global, kept: &Kept<'_>, faults: &mut E) {
-    let other = kept.other_bytes(alloc);
-    if let Some(name) = kept.other {
-        if str::from_utf8(other.as_slice()).is_err() {
-            let found = explain_bytes(name, other.as_slice(), false);
-            let _ = write!(faults, "{found}");
-            return;
-        }
-    }
-    let bytes = kept.file_bytes(alloc);
-    if let Some(name) = kept.file {
-        let found = explain_bytes(name, bytes.as_slice(), true);
-        let _ = write!(faults, "{found}");
-    }
+fn put_looks(name: &str, bytes: &[u8], is_schedule: bool, said: &mut Said) {
+    let alloc = said.alloc;
+    let found = explain_bytes(name, bytes, is_schedule);
+    said.file(name);
+    said.shown(format!(in alloc; "{found}"));
 }

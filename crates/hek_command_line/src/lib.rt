@@ -1,41 +1,47 @@
-//! The command line of the program: its words and their help, the files that it opens, and the command that is called.
+//! The command line of the program: the table of commands and what is made from it, the files that are opened, and the command that is
+//! called.
 #![tactic(auto)]
 
 mod advice;
 mod arguments;
 mod build;
+mod call;
 mod colour;
 mod command_line;
-mod convert;
+mod commands;
 mod disk;
 mod explain;
-mod explaining;
-mod file_texts;
+mod file_rows;
+mod help;
+mod histories;
 mod kept;
-mod log;
-mod log_pages;
+mod lock_words;
+mod manual;
 mod notes;
 mod opening;
-mod options;
-mod order_texts;
-mod output;
+mod order_rows;
 mod page_data;
-mod page_texts;
+mod page_rows;
 mod pages;
 mod permute;
 mod programs;
 mod reasons;
-mod refused;
-mod run_texts;
+mod rows;
+mod run_rows;
+mod runs;
+mod said;
 mod schedule;
+mod settings;
+mod shells;
+mod shown;
 mod sought;
 mod sources;
+mod streams;
 mod system_disk;
 mod texts;
-mod told;
 mod words;
 
-pub use command_line::{answer_in_threads, program};
+pub use command_line::{Surroundings, program};
 pub use disk::Disk;
-pub use explaining::{Colouring, Explaining, Wishes};
+pub use settings::{Settings, When};
 pub use system_disk::SystemDisk;

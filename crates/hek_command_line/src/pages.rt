@@ -1,121 +1,49 @@
-//! The words of `hek page`.
-use crate::disk::{Disk, LateFile};
-use crate::log_pages::{is_log, log_page};
-use crate::options::{form_of, level_of, number_of, step_of, text};
+//! `page`: the page of a run, of an explorer, or of a log.
+use crate::call::{Answer, Call, OUTPUT};
+use crate::disk::Disk;
 use crate::page_data::write_data;
 use crate::programs::is_program;
-use crate::refused::{OUTPUT, refuse_page, refuse_same};
-use crate::schedule::schedule_file;
 use clap::ArgMatches;
+use hek_history::Level;
+use hek_history_command::{Choice, Extent as LogExtent, history_command};
 use hek_page_command::{
     Explored, Extent, Heading, MOST_NODES, Making, Part, explorer_command, levels_command,
     made_file, page_command, program_command,
 };
 use hek_permute_command::{MovesChoice, plays_of_page};
 use hek_report::{HekFault, Printing, ScheduleFile};
-use std::alloc::Global;
-use std::io::{IsTerminal, Read, Write};
+use std::io::{Cursor, IsTerminal, Read, Write};
 use std::str;
 
-/// Answers `page`: the page goes to standard output, or with `-o` to a file.
-pub fn page<'a, D: Disk, I: Read + Drop, W: Write + IsTerminal, E: Write>(
-    alloc: Global,
-    found: &ArgMatches<'a>,
-    disk: &D,
-    input: &mut Option<I>,
-    out: &mut W,
-    faults: &mut E,
-) -> Result<u8, HekFault<'a>> {
-    let name = text(found, "FILE")?;
-    match found.get_str("output") {
-        Some(target) if target != OUTPUT => {
-            if refuse_same(disk, name, target, faults) {
-                return Ok(2);
-            }
-            let mut file = LateFile::new(disk, target);
-            let ran = write_page(alloc, found, disk, input, &mut file, faults);
-            let is_whole = matches!(ran, Ok(0));
-            file.settle(is_whole, ran)
-        }
-        None if !found.get_flag("json") && refuse_page(out, faults) => Ok(2),
-        _ => write_page(alloc, found, disk, input, out, faults),
-    }
-}
+/// How the name of a log ends.
+const LOG_NAME: &[u8] = b".jsonl";
 
-/// Writes the page that the words ask for, or its data alone.
-fn write_page<'a, D: Disk, I: Read + Drop, W: Write, E: Write>(
-    alloc: Global,
-    found: &ArgMatches<'a>,
-    disk: &D,
-    input: &mut Option<I>,
-    out: &mut W,
-    faults: &mut E,
-) -> Result<u8, HekFault<'a>> {
-    if !found.get_flag("json") {
-        return write_whole_page(alloc, found, disk, input, out, faults);
-    }
-    let mut page = Vec::new(alloc);
-    match write_whole_page(alloc, found, disk, input, &mut page, faults)? {
-        0 => write_data(page.as_slice(), out),
-        status => Ok(status),
-    }
-}
+/// The schedule of a page without a run.
+const NO_RUN: &[u8] = b"buckets 1\n";
 
-/// Writes the page that the words ask for.
-fn write_whole_page<'a, D: Disk, I: Read + Drop, W: Write, E: Write>(
-    alloc: Global,
-    found: &ArgMatches<'a>,
-    disk: &D,
-    input: &mut Option<I>,
-    out: &mut W,
-    faults: &mut E,
-) -> Result<u8, HekFault<'a>> {
-    let name = text(found, "FILE")?;
-    if is_log(found, name) {
-        let heading = heading_of(found)?;
-        return log_page(alloc, found, heading, name, disk, input, out, faults);
-    }
-    write_run_page(alloc, found, disk, input, out, faults)
-}
+const WHOLE: Part = Part {
+    from: None,
+    to: None,
+};
 
-/// Writes the page of a run, or of an explorer.
-fn write_run_page<'a, D: Disk, I: Read + Drop, W: Write, E: Write>(
-    alloc: Global,
-    found: &ArgMatches<'a>,
-    disk: &D,
-    input: &mut Option<I>,
-    out: &mut W,
-    faults: &mut E,
-) -> Result<u8, HekFault<'a>> {
-    let part = Part {
-        from: step_of(found, "from")?,
-        to: step_of(found, "to")?,
-    };
-    let explored = explored_of(found)?;
-    let extent = Extent {
-        form: form_of(found)?,
-        limit: number_of(found, "limit")?.unwrap_or(MOST_NODES),
-    };
-    let heading = heading_of(found)?;
-    let file = schedule_file(alloc, found, disk, input)?;
-    let told = told_in(alloc, found, &file)?;
-    let heading = Heading {
-        text: told.text.as_str(),
-        plays: told.plays.as_slice(),
-        ..heading
-    };
-    let Some(explored) = explored else {
-        let file = file_to_show(alloc, found, file)?;
-        return page_command(alloc, file, part, heading, out, faults);
-    };
-    if is_program(&file) {
-        return program_command(alloc, file, explored, extent, heading, out, faults);
-    }
-    let file = made_file(alloc, file, making_of(found)?)?;
-    match explored {
-        Explored::AllLevels => levels_command(alloc, file, extent, heading, out, faults),
-        Explored::At(_) => explorer_command(alloc, file, extent, heading, out, faults),
-    }
+const AS_SERIALIZABLE: Choice = Choice {
+    level: Some(Level::Serializable),
+    order: None,
+    extent: LogExtent::First,
+    effort: None,
+    explains: false,
+    printing: Printing::Json,
+};
+
+/// Whether the words name a log: FILE ends as one, and they don't say that it is a schedule.
+pub fn is_log(found: &ArgMatches<'_>) -> bool {
+    let says = found.get_flag("text") || found.get_flag("image");
+    !says
+        && found
+            .get_str("FILE")
+            .unwrap_or("")
+            .as_bytes()
+            .ends_with(LOG_NAME)
 }
 
 /// What the story of a page is told by: the text, and its plays as lines of JSON.
@@ -125,86 +53,233 @@ struct Told {
     plays: Vec<u8>,
 }
 
-/// What the story is told by of a schedule text; nothing of an image, of a part of a run, or where the words ask for the machine alone. Where a text is at
-/// fault its page says so.
-fn told_in<'a, R: Read + Drop>(
-    alloc: Global,
-    found: &ArgMatches<'a>,
-    file: &ScheduleFile<R>,
-) -> Result<Told, HekFault<'a>> {
-    let mut told = Told {
-        text: String::new(alloc),
-        plays: Vec::new(alloc),
-    };
-    let is_part = found.get_str("from").is_some() || found.get_str("to").is_some();
-    let ScheduleFile::Text(bytes) = file else {
-        return Ok(told);
-    };
-    let Ok(text) = str::from_utf8(bytes.as_slice()) else {
-        return Ok(told);
-    };
-    if told.text.push_str(text).is_err() {
-        return Err(HekFault::NoMemory);
+impl<'a, D: Disk, I: Read + Drop, W: Write + IsTerminal, E: Write> Call<
+    '_,
+    '_,
+    '_,
+    'a,
+    D,
+    I,
+    W,
+    E,
+> {
+    /// The page goes to standard output, or with `-o` to a file.
+    pub fn page(&mut self) -> Answer<'a> {
+        match self.given("output") {
+            Some(target) if target != OUTPUT => {
+                if self.refuses_same(target) {
+                    return Ok(2);
+                }
+                self.write_to(target);
+            }
+            None if !self.flag("json") && self.refuses_page() => return Ok(2),
+            _ => {}
+        }
+        let ran = self.write_page();
+        self.out.settle(matches!(ran, Ok(0)), ran)
     }
-    if found.get_flag("machine") || is_part {
-        return Ok(told);
+
+    /// Says that a page would go to a terminal, if it would.
+    fn refuses_page(&mut self) -> bool {
+        let is_shown = self.out.is_terminal();
+        if is_shown {
+            let _ = writeln!(
+                self.faults,
+                "hek: a page is for a browser, and standard output is a terminal: write it with -o FILE; `-o -` prints it"
+            );
+        }
+        is_shown
     }
-    match plays_of_page(alloc, bytes.as_slice(), moves_choice(found)?) {
-        Ok(plays) => told.plays = plays,
-        Err(HekFault::NoMemory) => return Err(HekFault::NoMemory),
-        Err(_) => {}
+
+    /// Writes the page that the words ask for, or its data alone.
+    fn write_page(&mut self) -> Answer<'a> {
+        if !self.flag("json") {
+            return self.write_whole();
+        }
+        self.out.memory = Some(Vec::new(self.alloc));
+        let ran = self.write_whole();
+        let page = self.out.memory.take();
+        match (ran, page) {
+            (Ok(0), Some(page)) => write_data(page.as_slice(), &mut self.out),
+            (ran, _) => ran,
+        }
     }
-    Ok(told)
-}
 
-/// How the words ask for the moves of a page's own run.
-fn moves_choice<'a>(found: &ArgMatches<'a>) -> Result<MovesChoice, HekFault<'a>> {
-    let is_explorer = found.get_flag("orders") || found.get_flag("levels");
-    Ok(MovesChoice {
-        auto: found.get_flag("auto") || is_explorer,
-        level: level_of(found)?,
-        told: false,
-        printing: Printing::Json,
-    })
-}
-
-/// Which explorer the words ask for, if they ask for one.
-fn explored_of<'a>(found: &ArgMatches<'a>) -> Result<Option<Explored>, HekFault<'a>> {
-    if found.get_flag("levels") {
-        Ok(Some(Explored::AllLevels))
-    } else if found.get_flag("orders") {
-        Ok(Some(Explored::At(level_of(found)?)))
-    } else {
-        Ok(None)
+    fn write_whole(&mut self) -> Answer<'a> {
+        if is_log(self.found) {
+            self.log_page()
+        } else {
+            self.run_page()
+        }
     }
-}
 
-/// The schedule that the words make of a file.
-fn file_to_show<'a, R: Read + Drop>(
-    alloc: Global,
-    found: &ArgMatches<'a>,
-    file: ScheduleFile<R>,
-) -> Result<ScheduleFile<R>, HekFault<'a>> {
-    made_file(alloc, file, making_of(found)?)
-}
+    /// Writes the page of a run, or of an explorer.
+    fn run_page(&mut self) -> Answer<'a> {
+        let file = self.schedule_file()?;
+        let told = self.told_in(&file)?;
+        let heading = Heading {
+            text: told.text.as_str(),
+            plays: told.plays.as_slice(),
+            ..self.heading()
+        };
+        let making = self.making();
+        let extent = self.extent();
+        let Some(explored) = self.explored() else {
+            let part = self.part();
+            let file = made_file(self.alloc, file, making)?;
+            return page_command(
+                self.alloc,
+                file,
+                part,
+                heading,
+                &mut self.out,
+                &mut self.faults,
+            );
+        };
+        let out = &mut self.out;
+        let faults = &mut self.faults;
+        if is_program(&file) {
+            return program_command(self.alloc, file, explored, extent, heading, out, faults);
+        }
+        let file = made_file(self.alloc, file, making)?;
+        match explored {
+            Explored::AllLevels => levels_command(self.alloc, file, extent, heading, out, faults),
+            Explored::At(_) => explorer_command(self.alloc, file, extent, heading, out, faults),
+        }
+    }
 
-/// What the words make of a schedule before its page.
-fn making_of<'a>(found: &ArgMatches<'a>) -> Result<Making, HekFault<'a>> {
-    Ok(Making {
-        level: level_of(found)?,
-        auto: found.get_flag("auto"),
-    })
-}
+    /// What the story is told by of a schedule text; nothing of an image. A part of a run, and the machine alone, have no plays.
+    /// Where a text is at fault its page says so.
+    fn told_in<R: Read + Drop>(&self, file: &ScheduleFile<R>) -> Result<Told, HekFault<'a>> {
+        let mut told = Told {
+            text: String::new(self.alloc),
+            plays: Vec::new(self.alloc),
+        };
+        let ScheduleFile::Text(bytes) = file else {
+            return Ok(told);
+        };
+        let Ok(text) = str::from_utf8(bytes.as_slice()) else {
+            return Ok(told);
+        };
+        if told.text.push_str(text).is_err() {
+            return Err(HekFault::NoMemory);
+        }
+        let is_part = self.given("from").is_some() || self.given("to").is_some();
+        if self.flag("machine") || is_part {
+            return Ok(told);
+        }
+        match plays_of_page(self.alloc, bytes.as_slice(), self.moves_choice()) {
+            Ok(plays) => told.plays = plays,
+            Err(HekFault::NoMemory) => return Err(HekFault::NoMemory),
+            Err(_) => {}
+        }
+        Ok(told)
+    }
 
-/// What the words say of a page's title and links.
-fn heading_of<'a>(found: &ArgMatches<'a>) -> Result<Heading<'a>, HekFault<'a>> {
-    Ok(Heading {
-        file: text(found, "FILE")?,
-        title: found.get_str("title"),
-        lesson: number_of(found, "lesson")?,
-        previous: found.get_str("previous"),
-        next: found.get_str("next"),
-        text: "",
-        plays: &[],
-    })
+    /// How the words ask for the moves of a page's own run.
+    fn moves_choice(&self) -> MovesChoice {
+        MovesChoice {
+            auto: self.flag("auto") || self.flag("orders") || self.flag("levels"),
+            level: self.level(),
+            told: false,
+            printing: Printing::Json,
+        }
+    }
+
+    /// Which explorer the words ask for, if they ask for one.
+    fn explored(&self) -> Option<Explored> {
+        if self.flag("levels") {
+            Some(Explored::AllLevels)
+        } else if self.flag("orders") {
+            Some(Explored::At(self.level()))
+        } else {
+            None
+        }
+    }
+
+    /// Which orders an explorer has.
+    fn extent(&self) -> Extent {
+        Extent {
+            form: self.form(),
+            limit: self.number("limit").unwrap_or(MOST_NODES),
+        }
+    }
+
+    /// What the words make of a schedule before its page.
+    fn making(&self) -> Making {
+        Making {
+            level: self.level(),
+            auto: self.flag("auto"),
+        }
+    }
+
+    /// Which steps a page shows.
+    fn part(&self) -> Part {
+        Part {
+            from: self.number("from"),
+            to: self.number("to"),
+        }
+    }
+
+    /// What the words say of a page's title and links.
+    fn heading(&self) -> Heading<'a> {
+        Heading {
+            file: self.word("FILE"),
+            title: self.given("title"),
+            lesson: self.number("lesson"),
+            previous: self.given("previous"),
+            next: self.given("next"),
+            text: "",
+            plays: &[],
+        }
+    }
+
+    /// Writes the page of a log: the story of its transactions, with what is said of it as serializable. Answers the exit
+    /// status, that of `hek history` at a fault of the log.
+    fn log_page(&mut self) -> Answer<'a> {
+        let name = self.word("FILE");
+        let log = self.bytes_of(name)?;
+        let Ok(text) = str::from_utf8(log.as_slice()) else {
+            return Err(HekFault::NotText);
+        };
+        let mut said = Vec::new(self.alloc);
+        let status = self.judge_log(log.as_slice(), &mut said)?;
+        if !matches!(status, 0 | 1 | 3) {
+            return Ok(status);
+        }
+        let plays = said.as_slice();
+        let heading = Heading {
+            text,
+            plays,
+            ..self.heading()
+        };
+        let Ok(none) = Vec::from_slice(self.alloc, NO_RUN) else {
+            return Err(HekFault::NoMemory);
+        };
+        let file: ScheduleFile<Cursor<Vec<u8>>> = ScheduleFile::Text(none);
+        page_command(
+            self.alloc,
+            file,
+            WHOLE,
+            heading,
+            &mut self.out,
+            &mut self.faults,
+        )
+    }
+
+    /// What is said of a log as serializable: an object of JSON.
+    fn judge_log(&mut self, log: &[u8], said: &mut Vec<u8>) -> Answer<'a> {
+        let mut nowhere: Option<Vec<u8>> = None;
+        let name = self.word("FILE");
+        let faults = &mut self.faults;
+        history_command(
+            self.alloc,
+            log,
+            name,
+            AS_SERIALIZABLE,
+            &mut nowhere,
+            said,
+            faults,
+        )
+    }
 }

@@ -1,5 +1,6 @@
 //! Programs, whose steps are computed: whether a file holds one, where a schedule is wanted, and what is wrong with one.
-use crate::opening::without_mark;
+use crate::commands::Command;
+use crate::said::Said;
 use clap::ArgMatches;
 use hek_asm::{AsmKind, assemble_text};
 use hek_diagnostics::{Excerpt, explain_text};
@@ -7,7 +8,7 @@ use hek_program::{ComputedLine, bare_text, computed_line, read_program};
 use hek_report::{HekFault, ScheduleFile};
 use hek_rules::next_line;
 use std::alloc::Global;
-use std::io::{Read, Write};
+use std::io::Read;
 use std::str;
 
 /// Whether a file has a line that only a program has.
@@ -37,40 +38,55 @@ pub fn plain_file<'a, R: Read + Drop>(
 }
 
 /// Whether the words of a command ask for a program's play.
-fn takes_programs(command: &str, found: &ArgMatches<'_>) -> bool {
+fn takes_programs(command: Command, found: &ArgMatches<'_>) -> bool {
     match command {
-        "permute" => true,
-        "page" => found.get_flag("auto") || found.get_flag("orders") || found.get_flag("levels"),
-        "run" | "debug" => found.get_flag("auto"),
-        _ => false,
+        Command::Permute => true,
+        Command::Page => {
+            found.get_flag("auto") || found.get_flag("orders") || found.get_flag("levels")
+        }
+        Command::Run | Command::Debug => found.get_flag("auto"),
+        Command::Check
+        | Command::History
+        | Command::Drive
+        | Command::Threads
+        | Command::Word
+        | Command::Release
+        | Command::Asm
+        | Command::Dis
+        | Command::Completions
+        | Command::Man => false,
     }
 }
 
 /// Explains the fault of a line of a schedule text: of a line that computes nothing, or of one of a program where a schedule
 /// is wanted.
-pub fn explain_line<'t, E: Write>(
-    alloc: Global,
-    matches: &ArgMatches<'_>,
-    name: &'t str,
-    bytes: &'t [u8],
+pub fn explain_line(
+    command: Command,
+    found: &ArgMatches<'_>,
+    name: &str,
+    text: &[u8],
     line: u64,
     kind: AsmKind,
-    faults: &mut E,
+    said: &mut Said,
 ) {
-    let text = without_mark(bytes);
-    let bare = match matches.subcommand() {
-        Some((command, found)) if takes_programs(command, found) => bare_of(alloc, text),
-        _ => match program_line(alloc, text, line) {
-            Some(what) => return explain_computed(name, text, line, what, faults),
-            None => None,
-        },
-    };
-    let text = match &bare {
-        Some(bare) => bare.as_slice(),
-        None => text,
-    };
+    if takes_programs(command, found) {
+        return match bare_of(said.alloc, text) {
+            Some(bare) => explain_bare(name, bare.as_slice(), line, kind, said),
+            None => explain_bare(name, text, line, kind, said),
+        };
+    }
+    match program_line(said.alloc, text, line) {
+        Some(what) => explain_computed(name, text, line, what, said),
+        None => explain_bare(name, text, line, kind, said),
+    }
+}
+
+/// Explains the fault of a line that computes nothing.
+fn explain_bare<'t>(name: &'t str, text: &'t [u8], line: u64, kind: AsmKind, said: &mut Said) {
+    let alloc = said.alloc;
     if let Ok(Some(found)) = explain_text(alloc, name, text, line, kind) {
-        let _ = write!(faults, "{found}");
+        said.shown(format!(in alloc; "{found}"));
+        said.diagnostic(name, &found.first);
     }
 }
 
@@ -89,41 +105,35 @@ fn bare_of(alloc: Global, text: &[u8]) -> Option<Vec<u8>> {
     bare_text(alloc, text).ok()
 }
 
-/// Shows the place of a program's fault. What can't be written is left out.
-pub fn explain_place<E: Write>(
+/// Shows the place of a program's fault.
+pub fn explain_place(
     name: &str,
-    bytes: &[u8],
+    text: &[u8],
     number: u64,
     column: u64,
     wanted: &str,
-    faults: &mut E,
+    said: &mut Said,
 ) {
-    let Some(line) = line_at(without_mark(bytes), number) else {
+    let Some(line) = line_at(text, number) else {
         return;
     };
     let start = (column as usize).saturating_sub(1).min(line.len());
     let end = end_of_token(line, start);
-    let excerpt = Excerpt { line, start, end };
-    let column = excerpt.column();
-    let _ = writeln!(
-        faults,
-        "  {name}:{number}:{column}\n{excerpt} {wanted} is wanted here"
-    );
+    said.excerpt(name, number, Excerpt { line, start, end });
+    said.message("@ is wanted here", &[wanted]);
 }
 
 /// Shows the line of a program where a schedule is wanted, and says what takes it.
-fn explain_computed<E: Write>(name: &str, text: &[u8], number: u64, what: &str, faults: &mut E) {
+fn explain_computed(name: &str, text: &[u8], number: u64, what: &str, said: &mut Said) {
     let Some(line) = line_at(text, number) else {
         return;
     };
-    let excerpt = Excerpt {
-        line,
-        start: 0,
-        end: line.len(),
-    };
-    let _ = writeln!(
-        faults,
-        "  {name}:{number}:1\n{excerpt} {what}: the file is a program\n  | `hek permute` plays every order of a program; `--auto` of run, debug and page plays one"
+    let start = 0;
+    let end = line.len();
+    said.excerpt(name, number, Excerpt { line, start, end });
+    said.message("@: the file is a program", &[what]);
+    said.lines.put(
+        "  | `hek permute` plays every order of a program; `--auto` of run, debug and page plays one\n",
     );
 }
 

@@ -2,16 +2,14 @@
 ghost use Rattle.std.specs.Prelude.{IfErr};
 ghost use Rattle.hek_report.specs.Files.{ReadFails};
 
-use crate::disk::{Disk, InputFile, open};
+use crate::call::{Call, Opened};
+use crate::disk::Disk;
 use crate::opening::{BYTE_ORDER_MARK, Opening, read_opening};
-use crate::options::level_of;
 use crate::programs::plain_file;
-use clap::ArgMatches;
 use hek_permute_command::{auto_file, level_file};
 use hek_report::{HekFault, ScheduleFile, buffered, read_fault, read_text};
-use hek_rules::Level;
 use std::alloc::Global;
-use std::io::{BufReader, Chain, Cursor, Read};
+use std::io::{BufReader, Chain, Cursor, Read, Write};
 
 /// How the name of a schedule text ends, in small or in capital letters.
 const TEXT_NAME: &str = ".hek";
@@ -23,7 +21,7 @@ const IMAGE_MARK: &[u8] = b"HKSC";
 const FRONT: u64 = 4;
 
 /// A file from its first byte, also where its front has been looked at.
-type FromFront<I, F> = Chain<Cursor<Vec<u8>>, InputFile<I, F>>;
+type FromFront<'k, 'a, I, F> = Chain<Cursor<Vec<u8>>, Opened<'k, 'a, I, F>>;
 
 /// What the words and the name say that a file holds.
 #[derive(Clone, Copy, PartialEq, Eq)]
@@ -36,74 +34,66 @@ enum Holds {
     Unsaid,
 }
 
-/// The schedule file that the words name. `--text` and `--image` say what it holds. Without them it is a text if its name
-/// ends in `.hek` and its first bytes aren't those of an image, or if its first word is one with which a line of a schedule
-/// text begins; otherwise it is an image.
-pub fn schedule_file<'a, D: Disk, I: Read + Drop>(
-    alloc: Global,
-    found: &ArgMatches<'a>,
-    disk: &D,
-    input: &mut Option<I>,
-) -> Result<ScheduleFile<BufReader<FromFront<I, D::Reader>>>, HekFault<'a>> {
-    let name = found.get_str("FILE").ok_or(HekFault::BadArgument)?;
-    let mut file = open(disk, input, name)?;
-    let (front, is_text) = match holds_of(found, name) {
-        Holds::Image => (Vec::new(alloc), false),
-        Holds::Text => (front_of(alloc, &mut file, name)?, true),
-        Holds::MaybeText => {
-            let front = front_of(alloc, &mut file, name)?;
-            let is_image = front.starts_with(IMAGE_MARK);
-            (front, !is_image)
-        }
-        Holds::Unsaid => {
-            let Opening { front, is_text } = read_opening(alloc, &mut file)?;
-            (front, is_text)
-        }
-    };
-    file_of(alloc, is_text, from_front(front, file), name)
-}
-
-/// The schedule file that the words name, as they ask for it to run: with `--level` all transactions at one level, with
-/// `--auto` with its reads and writes alone, and the steps that begin and end each transaction. Of a program `--auto` makes
-/// a schedule; without it a program is a fault.
-pub fn schedule_to_run<'a, D: Disk, I: Read + Drop>(
-    alloc: Global,
-    found: &ArgMatches<'a>,
-    disk: &D,
-    input: &mut Option<I>,
-) -> Result<ScheduleFile<BufReader<FromFront<I, D::Reader>>>, HekFault<'a>> {
-    let level = level_of(found)?;
-    let file = schedule_file(alloc, found, disk, input)?;
-    if found.get_flag("auto") {
-        return auto_file(alloc, file, level);
+impl<'k, 'a, D: Disk, I: Read + Drop, W: Write, E: Write> Call<'_, '_, 'k, 'a, D, I, W, E> {
+    /// The schedule file that the words name. `--text` and `--image` say what it holds. Without them it is a text if its name
+    /// ends in `.hek` and its first bytes aren't those of an image, or if its first word is one with which a line of a schedule
+    /// text begins; otherwise it is an image.
+    pub fn schedule_file(
+        &mut self,
+    ) -> Result<ScheduleFile<BufReader<FromFront<'k, 'a, I, D::Reader>>>, HekFault<'a>> {
+        let name = self.word("FILE");
+        let mut file = self.open(name)?;
+        let (front, is_text) = match self.holds(name) {
+            Holds::Image => (Vec::new(self.alloc), false),
+            Holds::Text => (front_of(self.alloc, &mut file, name)?, true),
+            Holds::MaybeText => {
+                let front = front_of(self.alloc, &mut file, name)?;
+                let is_image = front.starts_with(IMAGE_MARK);
+                (front, !is_image)
+            }
+            Holds::Unsaid => {
+                let Opening { front, is_text } = read_opening(self.alloc, &mut file)?;
+                (front, is_text)
+            }
+        };
+        file_of(self.alloc, is_text, from_front(front, file), name)
     }
-    level_plain(alloc, file, level)
-}
 
-/// As `schedule_to_run`, where a program is a fault with `--auto` too.
-pub fn plain_to_run<'a, D: Disk, I: Read + Drop>(
-    alloc: Global,
-    found: &ArgMatches<'a>,
-    disk: &D,
-    input: &mut Option<I>,
-) -> Result<ScheduleFile<BufReader<FromFront<I, D::Reader>>>, HekFault<'a>> {
-    let level = level_of(found)?;
-    let file = schedule_file(alloc, found, disk, input)?;
-    if found.get_flag("auto") {
-        return auto_file(alloc, plain_file(alloc, file)?, level);
+    /// The schedule file that the words name, as they ask for it to run: with `--level` all transactions at one level, with
+    /// `--auto` with its reads and writes alone, and the steps that begin and end each transaction. Of a program `--auto` makes
+    /// a schedule, if the command plays programs; otherwise a program is a fault.
+    pub fn schedule_to_run(
+        &mut self,
+        plays: bool,
+    ) -> Result<ScheduleFile<BufReader<FromFront<'k, 'a, I, D::Reader>>>, HekFault<'a>> {
+        let level = self.level();
+        let file = self.schedule_file()?;
+        match level {
+            _ if self.flag("auto") && plays => auto_file(self.alloc, file, level),
+            _ if self.flag("auto") => auto_file(self.alloc, plain_file(self.alloc, file)?, level),
+            Some(level) => level_file(self.alloc, file, level),
+            None => Ok(file),
+        }
     }
-    level_plain(alloc, file, level)
-}
 
-/// The schedule of a file with all transactions at this level, or at their own.
-fn level_plain<'a, R: Read + Drop>(
-    alloc: Global,
-    file: ScheduleFile<R>,
-    level: Option<Level>,
-) -> Result<ScheduleFile<R>, HekFault<'a>> {
-    match level {
-        Some(level) => level_file(alloc, file, level),
-        None => Ok(file),
+    /// All bytes of the schedule text that the words name, without a byte order mark at its front.
+    pub fn schedule_text(&mut self) -> Result<Vec<u8>, HekFault<'a>> {
+        let name = self.word("FILE");
+        let file = self.open(name)?;
+        text_from(self.alloc, file, name)
+    }
+
+    /// What the words and the name say that a file holds.
+    fn holds(&self, name: &str) -> Holds {
+        if self.flag("text") {
+            Holds::Text
+        } else if self.flag("image") {
+            Holds::Image
+        } else if is_text_name(name) {
+            Holds::MaybeText
+        } else {
+            Holds::Unsaid
+        }
     }
 }
 
@@ -122,7 +112,7 @@ fn file_of<'a, R: Read + Drop>(
 }
 
 /// All bytes of the schedule text of this name, without a byte order mark at its front.
-pub fn schedule_text<'a, R: Read + Drop>(
+fn text_from<'a, R: Read + Drop>(
     alloc: Global,
     mut file: R,
     name: &'a str,
@@ -131,19 +121,6 @@ pub fn schedule_text<'a, R: Read + Drop>(
 {
     let front = front_of(alloc, &mut file, name)?;
     read_text(alloc, from_front(front, file), name)
-}
-
-/// What the words and the name say that a file holds.
-fn holds_of(found: &ArgMatches<'_>, name: &str) -> Holds {
-    if found.get_flag("text") {
-        Holds::Text
-    } else if found.get_flag("image") {
-        Holds::Image
-    } else if is_text_name(name) {
-        Holds::MaybeText
-    } else {
-        Holds::Unsaid
-    }
 }
 
 /// Whether a name is one of a schedule text.

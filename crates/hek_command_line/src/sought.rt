@@ -1,9 +1,9 @@
 //! Which word is wrong in what `permute --find` is to look for.
+use crate::said::Said;
 use hek_diagnostics::nearest_word;
 use hek_report::is_named;
 use hek_rules::{Cause, NoMemory, ReplyForm, ReplyOperands, Schedule, TxnId};
 use std::alloc::Global;
-use std::io::Write;
 
 /// What is wrong with a word.
 #[derive(Clone, Copy)]
@@ -28,33 +28,28 @@ struct Fault {
 }
 
 /// Says which word of a text is wrong that is neither a reply nor the beginning of one.
-pub fn advise_sought<E: Write>(
-    alloc: Global,
-    text: &str,
-    schedule: Option<&Schedule>,
-    faults: &mut E,
-) {
+pub fn advise_sought(text: &str, schedule: Option<&Schedule>, said: &mut Said) {
     let fault = fault_of(text, schedule);
-    put_line(text, fault.place, faults);
+    put_place(text, fault.place, said);
     let word = text.split(' ').nth(fault.place).unwrap_or("");
-    let _ = match fault.wrong {
+    match fault.wrong {
         Wrong::NoBeginning => {
-            writeln!(
-                faults,
-                " `{word}` is no transaction, and no reply begins with it"
-            )
+            said.message(
+                "`@` is no transaction, and no reply begins with it",
+                &[word],
+            );
         }
-        Wrong::NoReply => writeln!(faults, " no reply begins with `{word}`"),
-        Wrong::NoCause => writeln!(faults, " no cause is called `{word}`"),
-        Wrong::NoOther => writeln!(faults, " no reply goes on with `{word}` here"),
-        Wrong::NoMore => writeln!(faults, " a reply is wanted after the name"),
-    };
-    let _ = writeln!(
-        faults,
-        "  | wanted: a reply as a trace has it, or its first words, maybe after the name of a transaction; or a verdict: `serial`, `another order`, `not serial`"
+        Wrong::NoReply => said.message("no reply begins with `@`", &[word]),
+        Wrong::NoCause => said.message("no cause is called `@`", &[word]),
+        Wrong::NoOther => said.message("no reply goes on with `@` here", &[word]),
+        Wrong::NoMore => said.message("a reply is wanted after the name", &[]),
+    }
+    said.wanted(
+        "a reply as a trace has it, or its first words, maybe after the name of a transaction; or a verdict: `serializable`, `serializable in another order`, `not serializable`",
+        &[],
     );
-    if let Ok(Some(meant)) = meant_instead(alloc, text, word, fault.wrong, schedule) {
-        let _ = writeln!(faults, "  | did you mean `{meant}`?");
+    if let Ok(Some(meant)) = meant_instead(said.alloc, text, word, fault.wrong, schedule) {
+        said.meant("@", &[meant]);
     }
 }
 
@@ -66,12 +61,33 @@ fn meant_instead<'s>(
     wrong: Wrong,
     schedule: Option<&'s Schedule>,
 ) -> Result<Option<&'s str>, NoMemory> {
-    let mut verdicts: Vec<&'s str> = Vec::new(alloc);
-    push_verdicts(&mut verdicts)?;
-    match nearest_word(alloc, text, verdicts.as_slice()) {
+    match meant_verdict(alloc, text) {
         Some(verdict) => Ok(Some(verdict)),
         None => meant_by(alloc, word, wrong, schedule),
     }
+}
+
+/// Words for a verdict, and the verdict that can be looked for.
+const VERDICTS: [(&str, &str); 6] = [
+    ("serializable", "serializable"),
+    ("serial", "serializable"),
+    ("not serializable", "not serializable"),
+    ("not serial", "not serializable"),
+    (
+        "serializable in another order",
+        "serializable in another order",
+    ),
+    ("another order", "serializable in another order"),
+];
+
+/// The verdict for which a text has words, or nearly so.
+fn meant_verdict(alloc: Global, text: &str) -> Option<&'static str> {
+    for (words, verdict) in VERDICTS {
+        if nearest_word(alloc, text, &[words]).is_some() {
+            return Some(verdict);
+        }
+    }
+    None
 }
 
 /// The first word that is wrong.
@@ -128,20 +144,19 @@ fn is_name(schedule: Option<&Schedule>, word: &str) -> bool {
     }
 }
 
-/// Writes the option with its value, and carets under a word of it.
-fn put_line<E: Write>(text: &str, place: usize, faults: &mut E) {
-    let _ = write!(faults, "  | --find {text}\n  |        ");
+/// The option with its value, and carets under a word of it, or after the last one.
+fn put_place(text: &str, place: usize, said: &mut Said) {
+    let mut before = "--find ".len();
+    let mut count = 1;
     for (index, word) in text.split(' ').enumerate() {
-        let mark = if index == place { '^' } else { ' ' };
-        for _ in word.chars() {
-            let _ = write!(faults, "{mark}");
+        let length = word.chars().count();
+        if index < place {
+            before = before.saturating_add(length).saturating_add(1);
+        } else if index == place {
+            count = length;
         }
-        if index == place {
-            return;
-        }
-        let _ = write!(faults, " ");
     }
-    let _ = write!(faults, "^");
+    said.carets("--find @", &[text], before, count);
 }
 
 /// The word that is meant by one that is wrong, if one is near.
@@ -169,14 +184,6 @@ fn meant_by<'s>(
 fn push_causes(words: &mut Vec<&str>) -> Result<(), NoMemory> {
     for cause in Cause::ALL {
         words.push(cause.word())?;
-    }
-    Ok(())
-}
-
-/// Adds the verdicts that can be looked for.
-fn push_verdicts(words: &mut Vec<&str>) -> Result<(), NoMemory> {
-    for word in ["serial", "another order", "not serial"] {
-        words.push(word)?;
     }
     Ok(())
 }

@@ -1,128 +1,99 @@
-//! What the words of commands look like, and the words that several have.
+//! A text that is made part by part, and remembers that memory ran out.
+use hek_rules::NoMemory;
+use std::alloc::Global;
+use std::mem;
 
-/// The name of a command, what it does, an example of it, and its arguments.
-pub(crate) struct CommandText {
-    pub(crate) name: &'static str,
-    pub(crate) about: &'static str,
-    pub(crate) example: &'static str,
-    pub(crate) arguments: &'static [ArgumentText],
+/// A text as far as it is made. Once memory runs out it takes no more.
+#[derive(Drop)]
+pub struct Text {
+    alloc: Global,
+    bytes: Vec<u8>,
+    is_short: bool,
 }
 
-/// The name of an argument, what it means, and how it is given.
-pub(crate) struct ArgumentText {
-    pub(crate) name: &'static str,
-    pub(crate) help: &'static str,
-    pub(crate) form: Form,
+impl Text {
+    /// A text without a part.
+    pub fn new(alloc: Global) -> Text {
+        Text {
+            alloc,
+            bytes: Vec::new(alloc),
+            is_short: false,
+        }
+    }
+
+    /// Adds a part.
+    pub fn put(&mut self, part: &str) {
+        if !self.is_short && self.bytes.extend_from_slice(part.as_bytes()).is_err() {
+            self.is_short = true;
+        }
+    }
+
+    /// Adds a pattern, with a value in place of each `@`.
+    pub fn fill(&mut self, pattern: &str, values: &[&str]) {
+        for (place, part) in pattern.split('@').enumerate() {
+            if let Some(before) = place.checked_sub(1) {
+                self.put(values.get(before).copied().unwrap_or(""));
+            }
+            self.put(part);
+        }
+    }
+
+    /// Adds words, with a blank between them.
+    pub fn words(&mut self, words: &[&str]) {
+        for (place, word) in words.iter().enumerate() {
+            self.put(if place > 0 { " " } else { "" });
+            self.put(word);
+        }
+    }
+
+    /// Adds a character so many times.
+    pub fn marks(&mut self, mark: &str, times: usize) {
+        for _ in 0..times {
+            self.put(mark);
+        }
+    }
+
+    /// Adds a text whose characters may stand for others.
+    pub fn escaped(&mut self, text: &str, escapes: &[(u8, &str)]) {
+        for byte in text.as_bytes() {
+            match escape_of(*byte, escapes) {
+                Some(escape) => self.put(escape),
+                None => self.byte(*byte),
+            }
+        }
+    }
+
+    fn byte(&mut self, byte: u8) {
+        if !self.is_short && self.bytes.push(byte).is_err() {
+            self.is_short = true;
+        }
+    }
+
+    /// Keeps that memory ran out.
+    pub fn lack_memory(&mut self) {
+        self.is_short = true;
+    }
+
+    /// Takes the bytes out, if memory sufficed.
+    pub fn take(&mut self) -> Result<Vec<u8>, NoMemory> {
+        if self.is_short {
+            return Err(NoMemory);
+        }
+        Ok(mem::replace(&mut self.bytes, Vec::new(self.alloc)))
+    }
 }
 
-#[derive(Clone, Copy)]
-pub(crate) enum Form {
-    /// A word at its place.
-    Word,
-    /// A word at its place, or none.
-    MaybeWord,
-    /// Words at their place, at least one.
-    Words,
-    /// Words at their place, or none.
-    MaybeWords,
-    /// One of these words at its place.
-    OneOf(&'static [&'static str]),
-    /// `--name`.
-    Flag,
-    /// `--name N`.
-    Number,
-    /// `--name VALUE`, with the word that the help prints for the value.
-    Value(&'static str),
-    /// `--name N`, which is required.
-    NeededNumber,
-    /// `--name`, which means the first word, or `--name=WORD` with one of the words.
-    Choice(&'static str, &'static [&'static str]),
-    /// `--name OUT`, or `-o OUT`.
-    Output,
+/// Two values, at one lifetime.
+pub fn pair<'v>(first: &'v str, second: &'v str) -> [&'v str; 2] {
+    [first, second]
 }
 
-pub(crate) const FILE: ArgumentText = ArgumentText {
-    name: "FILE",
-    help: "a schedule: a text by its name (.hek) or its first word, otherwise an image; - is standard input",
-    form: Form::Word,
-};
-
-pub(crate) const TEXT: ArgumentText = ArgumentText {
-    name: "text",
-    help: "FILE is a schedule text, whatever it holds",
-    form: Form::Flag,
-};
-
-pub(crate) const IMAGE: ArgumentText = ArgumentText {
-    name: "image",
-    help: "FILE is a schedule image, whatever it holds",
-    form: Form::Flag,
-};
-
-/// The word that `--explain` means, if it has none, and the other one.
-pub(crate) const ALWAYS: &str = "always";
-
-pub(crate) const NEVER: &str = "never";
-
-/// `CommandWords` takes this out of a command line, wherever it stands: here it is for the help, and refuses other words.
-pub(crate) const EXPLAIN: ArgumentText = ArgumentText {
-    name: "explain",
-    help: "says of each fault what is wrong, what is wanted and what is meant, as at a terminal; =never only names it",
-    form: Form::Choice(ALWAYS, &[ALWAYS, NEVER]),
-};
-
-/// `CommandWords` takes this out of a command line, wherever it stands, as `EXPLAIN`.
-pub(crate) const COLOR: ArgumentText = ArgumentText {
-    name: "color",
-    help: "colours replies by their kind, and faults: always, never, or at a terminal (auto)",
-    form: Form::Choice(ALWAYS, &[ALWAYS, NEVER, "auto"]),
-};
-
-pub(crate) const LEVEL: ArgumentText = ArgumentText {
-    name: "level",
-    help: "judges or runs all transactions as serializable, repeatable or snapshot",
-    form: Form::Value("L"),
-};
-
-pub(crate) const JSON: ArgumentText = ArgumentText {
-    name: "json",
-    help: "prints JSON, one object on each line",
-    form: Form::Flag,
-};
-
-pub(crate) const AUTO: ArgumentText = ArgumentText {
-    name: "auto",
-    help: "runs only the reads and writes of FILE, which may be a program, and begins and ends each transaction by itself",
-    form: Form::Flag,
-};
-
-/// `--auto` of a command that takes no other steps of FILE anyway: it is there so that the words of one command serve another.
-pub(crate) const ALWAYS_AUTO: ArgumentText = ArgumentText {
-    name: "auto",
-    help: "as always here: only the reads and writes of FILE count, or its rows and transactions",
-    form: Form::Flag,
-};
-
-/// The word that `--why` means, if it has none.
-pub(crate) const REASONS: &str = "reasons";
-
-/// The word of `--why=rules`.
-pub const RULES: &str = "rules";
-
-pub(crate) const WHY: ArgumentText = ArgumentText {
-    name: "why",
-    help: "prints the reasons of each reply under its line; =rules also names the definition of each and of the reply",
-    form: Form::Choice(REASONS, &[REASONS, RULES]),
-};
-
-pub(crate) const CHANGES: ArgumentText = ArgumentText {
-    name: "changes",
-    help: "prints what each step changed under its line",
-    form: Form::Flag,
-};
-
-pub(crate) const GRAIN: ArgumentText = ArgumentText {
-    name: "grain",
-    help: "cuts the end of a transaction into one move (move), two (split), or a move for each event (event)",
-    form: Form::Value("GRAIN"),
-};
+/// What stands for a byte, if something does.
+fn escape_of<'e>(byte: u8, escapes: &[(u8, &'e str)]) -> Option<&'e str> {
+    for (one, escape) in escapes {
+        if *one == byte {
+            return Some(*escape);
+        }
+    }
+    None
+}

@@ -8,27 +8,18 @@ use hek_report::{Lines, put_name};
 use hek_rules::{NoMemory, Schedule, TxnId};
 use hek_serial::Serializability;
 
-/// The words of a verdict in texts.
+/// The words of a verdict.
 pub fn verdict_word(verdict: Serializability) -> &'static str {
     match verdict {
-        Serializability::ByEndTime => "serial",
-        Serializability::InAnotherOrder => "serial in another order",
-        Serializability::NotSerial => "not serial",
-    }
-}
-
-/// The word of a verdict in JSON.
-fn json_word(verdict: Serializability) -> &'static str {
-    match verdict {
-        Serializability::ByEndTime => "serial",
-        Serializability::InAnotherOrder => "another order",
-        Serializability::NotSerial => "not serial",
+        Serializability::ByEndTime => "serializable",
+        Serializability::InAnotherOrder => "serializable in another order",
+        Serializability::NotSerial => "not serializable",
     }
 }
 
 /// Puts the member `verdict` alone.
 pub fn put_verdict(verdict: Serializability, out: &mut Lines) {
-    out.put_text("verdict", json_word(verdict));
+    out.put_text("verdict", verdict_word(verdict));
 }
 
 /// The exact verdict, where the search has one.
@@ -42,7 +33,7 @@ fn verdict_of(together: &Together) -> Option<Serializability> {
 }
 
 /// What is said where the search gave up.
-const UNKNOWN: &str = "not by end time; whether in another order is unknown";
+const UNKNOWN: &str = "not serializable by end time; whether in another order is unknown";
 
 /// Appends the verdict without the order and the cycle.
 pub fn put_word(together: &Together, lines: &mut Vec<u8>) -> Result<(), NoMemory> {
@@ -62,7 +53,8 @@ pub fn put_short(together: &Together, out: &mut Lines) {
     }
 }
 
-/// Appends the verdict on one line: `serial`, `serial in another order: b a`, or `not serial: a before b, b before a`.
+/// Appends the verdict on one line: `serializable`, `serializable in another order: b a`, or
+/// `not serializable: a before b, b before a`.
 pub fn put_phrase(
     schedule: &Schedule,
     together: &Together,

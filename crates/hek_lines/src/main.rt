@@ -2,14 +2,15 @@
 //! which the gate compares what two compilers make of most of `hek`.
 #![tactic(auto)]
 
-use hek_command_line::{Colouring, Explaining, SystemDisk, Wishes, answer_in_threads};
+use hek_command_line::{Settings, Surroundings, SystemDisk, When};
 use std::alloc::{AllocError, Global};
 use std::fs;
 use std::process::ExitCode;
 
-const WISHES: Wishes = Wishes {
-    explaining: Explaining::Never,
-    colouring: Colouring::Never,
+const SETTINGS: Settings = Settings {
+    explaining: When::Never,
+    colouring: When::Never,
+    width: 100,
 };
 
 fn main(rt: HostRuntime) -> ExitCode {
@@ -20,16 +21,13 @@ fn main(rt: HostRuntime) -> ExitCode {
         let Ok(words) = words_of(rt.alloc(), line) else {
             return ExitCode::FAILURE;
         };
-        let status = answer_in_threads(
-            &rt,
-            rt.alloc(),
-            words.as_slice(),
-            WISHES,
-            &SystemDisk::new(&rt),
-            rt.stdin(),
-            &mut rt.stdout(),
-            &mut rt.stdout(),
-        );
+        let given = Surroundings {
+            disk: &SystemDisk::new(&rt),
+            out: &mut rt.stdout(),
+            faults: &mut rt.stdout(),
+            settings: SETTINGS,
+        };
+        let status = given.answer(&rt, rt.alloc(), rt.stdin(), words.as_slice());
         let _ = println!(rt; "{line}: status {status}");
     }
     ExitCode::SUCCESS

@@ -105,20 +105,44 @@ fn say_skip(txn: TxnId, line: Option<u64>, out: &mut Sentence<'_>) {
     }
 }
 
+/// Says of some in a row who have the same hold what it is once, after the last of them.
 fn say_wait(txn: TxnId, holders: &[Holder], out: &mut Sentence<'_>) {
     out.form("@ wants to commit, and waits for ", &[Hole::txn(txn)]);
+    let mut before = None;
     for (place, holder) in holders.iter().enumerate() {
-        out.put(joint(place, holders.len()));
-        say_holder(*holder, out);
+        let hold = holder.hold;
+        let is_last = !has_hold(holders.get(place.saturating_add(1)), hold);
+        out.put(joint_of_holds(before, hold, is_last));
+        out.form("@", &[Hole::txn(holder.txn)]);
+        if is_last {
+            say_hold(hold, out);
+        }
+        before = Some(hold);
     }
 }
 
-fn say_holder(holder: Holder, out: &mut Sentence<'_>) {
-    let other = Hole::txn(holder.txn);
-    match holder.hold {
-        Hold::Read(key) => out.form("@, which read @", &[other, Hole::Number(key)]),
-        Hold::Looked => out.form("@, which looked where it writes", &[other]),
-        Hold::Uncommitted => out.form("@, which hasn't committed what it read", &[other]),
+fn has_hold(holder: Option<&Holder>, hold: Hold) -> bool {
+    match holder {
+        Some(holder) => holder.hold == hold,
+        None => false,
+    }
+}
+
+/// What stands before one who has a hold, by the hold of the one before; `is_last` of those in a row who have it.
+fn joint_of_holds(before: Option<Hold>, hold: Hold, is_last: bool) -> &'static str {
+    match before {
+        None => "",
+        Some(other) if other != hold => ", and for ",
+        Some(_) if is_last => " and ",
+        Some(_) => ", ",
+    }
+}
+
+fn say_hold(hold: Hold, out: &mut Sentence<'_>) {
+    match hold {
+        Hold::Read(key) => out.form(", which read @", &[Hole::Number(key)]),
+        Hold::Looked => out.put(", which looked where it writes"),
+        Hold::Uncommitted => out.put(", which hasn't committed what it read"),
     }
 }
 

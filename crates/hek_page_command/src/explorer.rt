@@ -4,18 +4,17 @@ ghost use Rattle.std.specs.Prelude.{◌≡◌, IfOk, IfErr, MatchResult};
 ghost use Rattle.hek_page_command.specs.Explorers.{Explores, ExploreFails, IsExplored, IsExploreStop};
 
 use crate::comments::{Comments, comments_in};
-use crate::heading::Heading;
+use crate::heading::{Heading, put_heading};
 use crate::sheet::write_sheet;
 use crate::states::nodes_of;
 use crate::texts::{add_invariants, step_texts};
 use crate::tree::{fault_of, tree_of};
-use crate::tree_data::{levels_data, tree_data};
+use crate::tree_data::put_tree_data;
 use hek_permute::{Form, moves_of, schedule_with};
 use hek_permute_command::{Given, leveled, program_in};
 use hek_program::Program;
-use hek_report::{HekFault, ScheduleFile, schedule_in};
-use hek_rules::{Level, NoMemory, Schedule};
-use serde_json::Value;
+use hek_report::{HekFault, Lines, ScheduleFile, schedule_in};
+use hek_rules::{Level, Schedule};
 use std::alloc::Global;
 use std::io::{Read, Write};
 
@@ -78,19 +77,24 @@ fn write_explorer<'a, W: Write, E: Write>(
     ensures answer { IfOk result (λ status. IsExplored status (W.contents out.old) (W.contents out.new)) }
     ensures stops { IfErr result IsExploreStop }
 {
-    let data = explorer_data(alloc, given, texts, extent, heading, comments)?;
-    write_data(alloc, extent, heading, data, out, faults)
+    let mut data = Lines::new(alloc);
+    data.begin_line();
+    let fits = put_explorer(alloc, given, texts, extent, heading, comments, &mut data)?;
+    data.end_line();
+    write_data(alloc, extent, heading, fits, &mut data, out, faults)
 }
 
-/// The data of the explorer of a schedule; none if there are more nodes than the limit.
-fn explorer_data<'a>(
+/// Puts the members of the explorer of a schedule. Answers whether there are no more nodes than the limit: if there are,
+/// nothing is put.
+fn put_explorer<'a>(
     alloc: Global,
     given: &Given<'_>,
     texts: &[String],
     extent: Extent,
     heading: &Heading<'_>,
     comments: &Comments,
-) -> Result<Option<Value>, HekFault<'a>>
+    data: &mut Lines,
+) -> Result<bool, HekFault<'a>>
     ensures stops { IfErr result IsExploreStop }
 {
     let Extent { form, limit } = extent;
@@ -98,41 +102,38 @@ fn explorer_data<'a>(
     let moves = moves.as_slice();
     let nodes = match nodes_of(alloc, given.schedule, moves, form, limit) {
         Ok(Some(nodes)) => nodes,
-        Ok(None) => return Ok(None),
+        Ok(None) => return Ok(false),
         Err(fault) => return Err(fault_of(fault)),
     };
     let tree = tree_of(alloc, given, moves, form, &nodes)?;
-    some_data(tree_data(alloc, given, texts, moves, form, &tree, heading, comments))
+    put_tree_data(
+        alloc, given, texts, moves, form, &tree, heading, comments, data,
+    );
+    Ok(true)
 }
 
-/// These data, if there was memory for them.
-fn some_data<'a>(data: Result<Value, NoMemory>) -> Result<Option<Value>, HekFault<'a>>
-    ensures stops { IfErr result IsExploreStop }
-{
-    match data {
-        Ok(data) => Ok(Some(data)),
-        Err(_) => Err(HekFault::NoMemory),
-    }
-}
-
-/// Writes the page of these data; if there are none, `faults` says that there are more nodes than the limit.
+/// Writes the page of these data; if they do not fit, `faults` says that there are more nodes than the limit.
 fn write_data<'a, W: Write, E: Write>(
     alloc: Global,
     extent: Extent,
     heading: &Heading<'_>,
-    data: Option<Value>,
+    fits: bool,
+    data: &mut Lines,
     out: &mut W,
     faults: &mut E,
 ) -> Result<u8, HekFault<'a>>
     ensures answer { IfOk result (λ status. IsExplored status (W.contents out.old) (W.contents out.new)) }
     ensures stops { IfErr result IsExploreStop }
 {
-    let Some(data) = data else {
+    if !fits {
         let limit = extent.limit;
         let _ = writeln!(faults, "hek: page: more than {limit} nodes");
         return Ok(1);
+    }
+    let Ok(data) = data.take() else {
+        return Err(HekFault::NoMemory);
     };
-    match write_sheet(alloc, heading, &data, out) {
+    match write_sheet(alloc, heading, data.as_slice(), out) {
         Ok(()) => Ok(0),
         Err(HekFault::CannotWrite) => Err(HekFault::CannotWrite),
         Err(_) => Err(HekFault::NoMemory),
@@ -245,38 +246,42 @@ fn write_levels<'a, W: Write, E: Write>(
     ensures answer { IfOk result (λ status. IsExplored status (W.contents out.old) (W.contents out.new)) }
     ensures stops { IfErr result IsExploreStop }
 {
-    let data = all_levels(alloc, given, texts, extent, heading, comments)?;
-    write_data(alloc, extent, heading, data, out, faults)
+    let mut data = Lines::new(alloc);
+    data.begin_line();
+    data.put_text("kind", "levels");
+    put_heading(alloc, heading, comments, &mut data);
+    data.put_key("trees");
+    data.begin_array();
+    let fits = put_levels(alloc, given, texts, extent, heading, comments, &mut data)?;
+    data.end_array();
+    data.end_line();
+    write_data(alloc, extent, heading, fits, &mut data, out, faults)
 }
 
-/// The data of the explorers at all levels; none if an explorer has more nodes than the limit.
-fn all_levels<'a>(
+/// Puts the objects of the explorers at all levels, from the strictest on. Answers whether none has more nodes than the limit.
+fn put_levels<'a>(
     alloc: Global,
     given: &Given<'_>,
     texts: &[String],
     extent: Extent,
     heading: &Heading<'_>,
     comments: &Comments,
-) -> Result<Option<Value>, HekFault<'a>>
+    data: &mut Lines,
+) -> Result<bool, HekFault<'a>>
     ensures stops { IfErr result IsExploreStop }
 {
-    let mut trees = Vec::new(alloc);
     for level in Level::ALL {
-        match data_at(alloc, given, texts, level, extent, heading, comments) {
-            Ok(Some(tree)) => {
-                if trees.push(tree).is_err() {
-                    return Err(HekFault::NoMemory);
-                }
-            }
-            Ok(None) => return Ok(None),
-            Err(fault) => return Err(fault),
+        data.begin_object();
+        match put_at(alloc, given, texts, level, extent, heading, comments, data) {
+            Ok(true) => data.end_object(),
+            other => return other,
         }
     }
-    some_data(levels_data(alloc, heading, comments, trees))
+    Ok(true)
 }
 
-/// The data of the explorer with all transactions at a level.
-fn data_at<'a>(
+/// Puts the members of the explorer with all transactions at a level, as `put_explorer` does.
+fn put_at<'a>(
     alloc: Global,
     given: &Given<'_>,
     texts: &[String],
@@ -284,7 +289,8 @@ fn data_at<'a>(
     extent: Extent,
     heading: &Heading<'_>,
     comments: &Comments,
-) -> Result<Option<Value>, HekFault<'a>>
+    data: &mut Lines,
+) -> Result<bool, HekFault<'a>>
     ensures stops { IfErr result IsExploreStop }
 {
     let schedule = given.schedule;
@@ -292,5 +298,5 @@ fn data_at<'a>(
         return Err(HekFault::NoMemory);
     };
     let over = given.over(&leveled_one);
-    explorer_data(alloc, &over, texts, extent, heading, comments)
+    put_explorer(alloc, &over, texts, extent, heading, comments, data)
 }

@@ -1,8 +1,7 @@
 //! What a page says of itself: its title, its number among lessons, and the pages before and after it.
 use crate::comments::Comments;
-use crate::members::{Members, number_value, put_text, put_value};
+use hek_report::Lines;
 use hek_rules::NoMemory;
-use serde_json::{Value, json};
 use std::alloc::Global;
 
 /// The title, the number of the lesson and the addresses of the pages before and after this one.
@@ -28,55 +27,40 @@ impl Heading<'_> {
             None => title_of(alloc, self.file),
         }
     }
-
-    /// The number of the lesson, or null.
-    fn lesson_value(&self, alloc: Global) -> Result<Value, NoMemory> {
-        match self.lesson {
-            Some(lesson) => number_value(alloc, lesson),
-            None => Ok(Value::Null),
-        }
-    }
 }
 
-/// Adds the title, what the comments say and ask of the schedule, the lesson, and the pages before and after.
+/// Puts the title, what the comments say and ask of the schedule, the lesson, and the pages before and after.
 pub(crate) fn put_heading(
     alloc: Global,
     heading: &Heading<'_>,
     comments: &Comments,
-    members: &mut Members,
-) -> Result<(), NoMemory> {
-    put_title(alloc, heading, members)?;
-    put_text(alloc, "about", comments.about.as_str(), members)?;
-    put_text(alloc, "question", comments.question.as_str(), members)?;
-    put_text(alloc, "text", heading.text, members)?;
-    put_value(alloc, "lesson", heading.lesson_value(alloc)?, members)?;
-    put_link(alloc, "previous", heading.previous, members)?;
-    put_link(alloc, "next", heading.next, members)
+    out: &mut Lines,
+) {
+    match heading.title(alloc) {
+        Ok(title) => out.put_text("title", title.as_str()),
+        Err(_) => out.lack_memory(),
+    }
+    out.put_text("about", comments.about.as_str());
+    out.put_text("question", comments.question.as_str());
+    out.put_text("text", heading.text);
+    out.put_maybe("lesson", heading.lesson);
+    put_link(alloc, "previous", heading.previous, out);
+    put_link(alloc, "next", heading.next, out);
 }
 
-fn put_title(alloc: Global, heading: &Heading<'_>, members: &mut Members) -> Result<(), NoMemory> {
-    let title = heading.title(alloc)?;
-    put_text(alloc, "title", title.as_str(), members)
-}
-
-fn put_link(
-    alloc: Global,
-    name: &str,
-    address: Option<&str>,
-    members: &mut Members,
-) -> Result<(), NoMemory> {
-    let value = link_value(alloc, address)?;
-    put_value(alloc, name, value, members)
-}
-
-/// A page's address and its title, or null if there is no address.
-fn link_value(alloc: Global, address: Option<&str>) -> Result<Value, NoMemory> {
+/// Puts a page's address and its title, or null if there is no address.
+fn put_link(alloc: Global, name: &str, address: Option<&str>, out: &mut Lines) {
     let Some(address) = address else {
-        return Ok(Value::Null);
+        return out.put_null(name);
     };
-    let title = title_of(alloc, address)?;
-    let title = title.as_str();
-    Ok(json!(in alloc; [address, title])?)
+    let Ok(title) = title_of(alloc, address) else {
+        return out.lack_memory();
+    };
+    out.put_key(name);
+    out.begin_array();
+    out.write_text(address);
+    out.write_text(title.as_str());
+    out.end_array();
 }
 
 /// The title that a file's name gives: `Late reader` for `examples/late-reader.hek`.

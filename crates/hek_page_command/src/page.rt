@@ -58,7 +58,7 @@ fn write_page<'a, W: Write, E: Write>(
         return Ok(1);
     }
     let data = data_of(alloc, schedule, range, heading, comments)?;
-    write_sheet(alloc, heading, &data, out)?;
+    write_sheet(alloc, heading, data.as_slice(), out)?;
     Ok(0)
 }
 

@@ -7,17 +7,24 @@ ghost use Rattle.hek_worker.specs.History.{Replays};
 
 use crate::prefixes::is_whole;
 use crate::story::{StepRange, Story, story_of};
-use hek_permute::{Form, Moves, OrderFault, Play, outcome_of, play_order, schedule_with};
-use hek_permute_command::{Given, put_judged};
+use hek_permute::{Form, Moves, OrderFault, Outcome, Play, outcome_of, play_order, schedule_with};
+use hek_permute_command::Given;
 use hek_rules::{Event, NoMemory, Schedule, TxnId};
 use std::alloc::Global;
 
-/// The events of a play, the story of those that a page shows, and the line of the outcome if the order is whole.
+/// The outcome of an order, and the line of the first invariant that it breaks.
+#[derive(Drop)]
+pub struct Judged {
+    pub outcome: Outcome,
+    pub breaks: Option<u64>,
+}
+
+/// The events of a play, the story of those that a page shows, and the outcome if the order is whole.
 #[derive(Drop)]
 pub struct OrderStory {
     pub events: Vec<Event>,
     pub story: Story,
-    pub outcome: Option<Vec<u8>>,
+    pub outcome: Option<Judged>,
 }
 
 /// The play of an order, or of the first moves of one: its events, and the story of those after the first `done` ones. `moves`
@@ -35,7 +42,7 @@ pub fn order_story(
     let schedule = given.schedule;
     let play = play_order(alloc, schedule, moves, form, order)?;
     let events = events_of(alloc, &play)?;
-    let outcome = outcome_line(alloc, given, moves, form, order, play)?;
+    let outcome = judged_of(alloc, given, moves, form, order, play)?;
     let story = story_of_events(alloc, schedule, events.as_slice(), done)?;
     Ok(OrderStory {
         events,
@@ -50,24 +57,23 @@ fn events_of(alloc: Global, play: &Play) -> Result<Vec<Event>, NoMemory>
     Ok(play.history.iter().map(|entry| entry.event).collect(alloc)?)
 }
 
-/// The line of a play's outcome, if the order is whole.
-fn outcome_line(
+/// The outcome of a play, if the order is whole.
+fn judged_of(
     alloc: Global,
     given: &Given<'_>,
     moves: &[Moves],
     form: Form,
     order: &[TxnId],
     play: Play,
-) -> Result<Option<Vec<u8>>, OrderFault>
+) -> Result<Option<Judged>, OrderFault>
     requires { Replays given.now.schedule.now play.machine play.history.items }
 {
     if !is_whole(moves, form, order) {
         return Ok(None);
     }
     let outcome = outcome_of(alloc, given.schedule, play)?;
-    let mut text = Vec::new(alloc);
-    put_judged(alloc, given, &outcome, &mut text)?;
-    Ok(Some(text))
+    let breaks = given.broken_by(alloc, &outcome)?;
+    Ok(Some(Judged { outcome, breaks }))
 }
 
 /// The story of these events over a schedule's rows and transactions, after the first `done` ones.

@@ -17,7 +17,7 @@ const HIDDEN = /[\u0000-\u0008\u000b-\u001f\u007f-\u009f\u061c\u200e\u200f\u202a
 const ENTITIES = { "&": "&amp;", "<": "&lt;", ">": "&gt;", '"': "&quot;", "'": "&#39;" };
 const shown = (text) => String(text).replace(HIDDEN, (it) => (it < " " ? String.fromCharCode(0x2400 + it.charCodeAt(0)) : it === "\u007f" ? "\u2421" : "\ufffd"));
 const esc = (text) => shown(text).replace(/[&<>"']/g, (it) => ENTITIES[it]);
-const parse = (json) => JSON.parse(json.replace(/"(?:[^"\\]|\\.)*"|-?\d{16,}/g, (it) => (it[0] === '"' ? it : `"${it}"`)));
+const parse = (json) => JSON.parse(json.replace(/"[^"\\]*(?:\\.[^"\\]*)*"|-?\d{16,}/g, (it) => (it[0] === '"' ? it : `"${it}"`)));
 const grouped = (number) => String(number).replace(/\B(?=(\d{3})+$)/g, ",");
 const list = (texts) => (texts.length < 2 ? texts.join("") : `${texts.slice(0, -1).join(", ")} and ${texts.at(-1)}`);
 const sentences = (all) => all.filter(Boolean).map((it) => it[0].toUpperCase() + it.slice(1) + (/[.!?]$/.test(it) ? "" : ".")).join(" ");
@@ -127,7 +127,8 @@ function placeInOrder({ columns, names, order }) {
   let last = -1; for (const column of columns) { column.isLate = waited.has(column.t) && ENDS.test(column.kind);
     if (!column.isLate) last = Math.max(last, places[column.t][count[column.t]++] ?? last); if (column.kind === "wait") waited.add(column.t);
     column.place = last; } }
-const verdictKind = (word = "") => (/^not ser/.test(word) ? "not" : /another/.test(word) ? "other" : /^serial/.test(word) ? "serial" : "unknown");
+const KINDS = [[/unknown/, "unknown"], [/^(not ser|fails)/, "not"], [/another order/, "other"], [/^(serial|holds)/, "serial"]];
+const verdictKind = (words = "") => KINDS.find(([form]) => form.test(words))?.[1] ?? "unknown";
 const VERDICTS = { not: "not serializable", other: "serializable in another order", serial: "serializable", unknown: "not judged" };
 function verdictOf({ together = {}, breaks = null, names, kind: what, level }, story, at) {
   const kind = verdictKind(together.verdict), order = (together.order ?? []).map((name) => names.indexOf(name)), out = names.filter((name, t) => story.ends[t] === "abort");
@@ -203,9 +204,10 @@ function layout(story, { w, h, u, all = [story], rows = true }) {
   const slots = slotsOf(all), own = slots.of[all.indexOf(story)]; let way, xs, length, pad = (isNarrow ? 1.2 : 2.6) * u, room = w - gutter - pad - tail;
   for (way of ways(all, slots, room, u, isNarrow)) { if (way.isTight) [pad, room] = [0.4 * u, room + pad - 0.4 * u];
     xs = spread(all, slots, way.widths, way.least); length = end(all, slots, way.widths, xs); if (length <= room + 0.5) break; }
-  const first = way.widths.flat()[0] ?? 0, isEven = way.least === first, stretch = isEven || length >= room ? 1 : clamp(1, (room - first) / Math.max(length - first, 1), 2);
-  const widths = way.widths[all.indexOf(story)], place = (x) => pad + first / 2 + (x - first / 2) * stretch;
-  const mid = (index) => place(xs[own[index]] ?? (xs.at(-1) ?? 0) + first), most = place(length - first / 2) + first / 2;
+  const first = way.widths.flat()[0] ?? 0, isEven = way.least === first, boxes = way.widths.flatMap((its, which) => its.map((width, index) => ({ x: xs[slots.of[which][index]] - first / 2, width })));
+  const stretches = boxes.filter(({ x }) => x > 1).map(({ x, width }) => (room - (first + width) / 2) / x), stretch = isEven || length >= room ? 1 : clamp(1, Math.min(2, ...stretches), 2);
+  const widths = way.widths[all.indexOf(story)], place = (x) => pad + first / 2 + x * stretch;
+  const mid = (index) => place((xs[own[index]] ?? (xs.at(-1) ?? 0) + first) - first / 2), most = Math.max(pad, ...boxes.map(({ x, width }) => place(x) + width / 2));
   const left = (index) => mid(index) - (widths[index] ?? first) / 2, right = (index) => (index ? mid(index - 1) + (widths[index - 1] ?? first) / 2 : pad);
   const high = heights(story, { h, u, rows, isNarrow });
   return { w: Math.max(most + tail, w - gutter), u, count: story.columns.length, gutter, pad, nameSize, size: high.high > 3.6 * u ? way.size : Math.min(way.size, L), isNarrow, mid, left, right,
@@ -264,27 +266,35 @@ const links = (story, at, step) => story.columns.map((column, index) => {
 const frees = (story, at, step) => story.waits.map((wait) => { if (wait.by === null || !isNear(at, wait.by, step)) return "";
   const from = story.columns[wait.by].t, isDown = wait.t > from, y = at.y(from) + (isDown ? at.high : 0), to = at.y(wait.t) + at.high * (isDown ? 0.11 : 0.89);
   return path(`M${r1(at.mid(wait.by))} ${r1(y)}V${r1(to)}`, "ghost") + head(at.mid(wait.by), to, isDown, 0.5 * at.u, "inkf"); }).join("");
-function clearance([x, y], [w, h], story, at, used, curves) {
-  const boxes = story.columns.map((column, index) => Math.max(Math.abs(at.mid(index) - x) - (at.width(index) + w) / 2, Math.abs(at.y(column.t) + at.high / 2 - y) - (at.high + h) / 2));
+const inCycle = (story) => new Set(story.verdict.edges.flatMap(({ a, b }) => [a, b])); function clearance([x, y], [w, h], story, at, used, curves) {
+  const kept = inCycle(story), boxes = story.columns.map((column, index) => {
+    const free = Math.max(Math.abs(at.mid(index) - x) - (at.width(index) + w) / 2, Math.abs(at.y(column.t) + at.high / 2 - y) - (at.high + h) / 2);
+    return kept.has(index) ? free : Math.max(free, -0.25 * at.u); });
   const labels = used.map((it) => Math.max(Math.abs(it.x - x) - (it.w + w) / 2 - 4, Math.abs(it.y - y) - h - 3));
   const tips = curves.map(({ tip }) => Math.max(Math.abs(tip[0] - x) - w / 2 - 0.7 * at.u, Math.abs(tip[1] - y) - h / 2 - 0.9 * at.u));
   return Math.min(...boxes, ...labels, ...tips, x - w / 2, at.w - x - w / 2); }
-const SHIFTS = [0, 0.9, -0.9, 1.8]; function edges(story, at) {
+const SHIFTS = [0, 0.9, -0.9, 1.8]; function intoGap(y, h, at, count) {
+  const gap = Math.round(y / at.lane), middle = gap * at.lane, slack = Math.max(0, at.gap / 2 - h / 2 - 1), most = 0.45 * h;
+  return gap < 1 || gap >= count ? 0 : clamp(-most, clamp(middle - slack, y, middle + slack) - y, most); }
+function edges(story, at) {
   const ends = new Map(), used = [], all = story.verdict.edges.filter((it) => it.a !== null && it.b !== null && it.a !== undefined && it.b !== undefined);
   const shift = (key) => { const count = ends.get(key) ?? 0; ends.set(key, count + 1); return SHIFTS[count % 4] * Math.min(at.u, at.width(0) / 4); };
   const curves = all.map(({ a, b, from, to }) => join(story, at, a, b, [shift(`${a} ${to > from}`), shift(`${b} ${to < from}`)]));
-  const drawn = all.map(({ kind, key }, index) => {
-    const { curve, tip, isDown, size } = curves[index], words = `${kind} ${key ?? ""}`.trim(), type = (at.width(0) < 3 * at.u ? S : M) * at.u, w = wide(words, type, 700) + 0.9 * type, h = 1.45 * type;
-    const points = Array.from({ length: 41 }, (_, part) => pointAt(curve, 0.1 + part * 0.02)), score = (point) => clearance(point, [w, h], story, at, used, curves);
-    const [x, y] = points.map((point) => [score(point), point]).sort(([one], [other]) => other - one)[0][1], top = Math.max(y, h / 2 + 1), left = clamp(w / 2 + 1, x, at.w - w / 2 - 1);
-    used.push({ x: left, y: top, w });
-    return [path(curved(curve), "edge") + head(...tip, isDown, size * 1.5, "bad"), rect(left - w / 2, top - h / 2, w, h, "bad", 0.3 * at.u) + text(left, top + 0.35 * type, type, words, "b on")]; });
-  return drawn.map(([line]) => line).join("") + drawn.map(([, label]) => label).join(""); }
+  const type = (at.width(0) < 3 * at.u ? S : M) * at.u, h = 1.45 * type, words = all.map(({ kind, key }) => `${kind} ${key ?? ""}`.trim()), widths = words.map((it) => wide(it, type, 700) + 0.9 * type);
+  const place = (index) => {
+    const w = widths[index], others = used.filter((_, other) => other !== index), points = Array.from({ length: 41 }, (_, part) => pointAt(curves[index].curve, 0.1 + part * 0.02));
+    const [x, y] = points.flatMap(([left, top]) => [0, intoGap(top, h, at, story.names.length)].map((by) => { const point = [left, top + by];
+      return [clearance(point, [w, h], story, at, others, curves) - Math.abs(by) / 2, point]; })).sort(([one], [other]) => other - one)[0][1];
+    used[index] = { x: clamp(w / 2 + 1, x, at.w - w / 2 - 1), y: Math.max(y, h / 2 + 1), w }; };
+  for (let round = 0; round < 3; round++) all.forEach((_, index) => place(index));
+  const line = ({ curve, tip, isDown, size }) => path(curved(curve), "edge") + head(...tip, isDown, size * 1.5, "bad");
+  const label = ({ x, y, w }, index) => rect(x - w / 2, y - h / 2, w, h, "bad", 0.3 * at.u) + text(x, y + 0.35 * type, type, words[index], "b on");
+  return curves.map(line).join("") + used.map(label).join(""); }
 function life(story, at, t, step) { const own = story.columns.flatMap((column, index) => (column.t === t && index < step ? [index] : []));
   if (!own.length) return ""; const last = own.at(-1), isOver = /commit|abort|unknown/.test(story.columns[last].kind), y = r1(at.y(t) + at.high / 2);
   return path(`M${r1(at.left(own[0]) + 3)} ${y}H${r1(isOver ? at.mid(last) : at.right(step))}`, `life s${colour(t)}`); }
 const labelOf = (column, index) => `${index + 1}: ${plain(column.say ?? "")}`; function lanes(story, at, step, isLive = false) {
-  const isEnd = step > at.count, now = Math.min(step, at.count), isCycle = isEnd && story.verdict.kind === "not", kept = new Set(story.verdict.edges.flatMap(({ a, b }) => [a, b])), h = at.lane * story.names.length;
+  const isEnd = step > at.count, now = Math.min(step, at.count), isCycle = isEnd && story.verdict.kind === "not", kept = inCycle(story), h = at.lane * story.names.length;
   const band = now > 0 && !isEnd ? rect(at.left(now - 1), 0, at.width(now - 1), h, "band") : "", dim = (is) => (is ? ' class="dim"' : "");
   const rules = story.names.map((_, t) => path(`M0 ${r1(at.y(t) + at.high / 2)}H${r1(at.w)}`, "rule")).join(""), lives = story.names.map((_, t) => life(story, at, t, now)).join("");
   const bars = story.waits.filter((wait) => wait.from < now).map((wait) => `<g${dim(isCycle)}>${waitBar(story, at, wait, now)}</g>`).join("");
@@ -293,22 +303,25 @@ const labelOf = (column, index) => `${index + 1}: ${plain(column.say ?? "")}`; f
   const under = isCycle ? story.columns.map((column, index) => (column.kind === "wait" ? "" : rect(at.left(index) + 2, at.y(column.t), at.width(index) - 4, at.high, "chip", column.kind === "commit" ? at.high / 2 : 6))).join("") : "";
   const arrows = isCycle ? "" : frees(story, at, now), found = isCycle ? edges(story, at) : links(story, at, now);
   return svg(at.w, h, `Lanes of ${story.names.join(", ")} after ${now} of ${at.count} moves`, DEFS + band + rules + lives + bars + arrows + under + boxes + found, isLive ? "group" : "img"); }
-return { names, labelOf, lanes }; })(); Story.rows = (() => { const { cut, wide } = Story.text;
+return { names, labelOf, lanes }; })(); Story.rows = (() => { const { cut, fitting, list, wide } = Story.text;
 const { DEFS, M, S, colour, path, r1, rect, svg, text, title } = Story.svg; const NONE = "–";
 const height = (story, at) => at.top + at.row * (story.tracks.length + story.always.length) + 4; function keys(story, at) {
   const { u } = at, count = story.tracks.length, room = at.gutter - 4;
   const rows = story.tracks.map(({ key }, index) => `<g>${title(key)}${text(2, at.top + at.row * index + at.row - 0.27 * u, M * u, cut(key, room, M * u, 700), "b", "start")}</g>`);
   const always = story.always.map((it, index) => text(2, at.top + at.row * (count + index) + 1.35 * u, S * u, cut("always", room, S * u, 700), "b", "start"));
   return svg(at.gutter, height(story, at), "rows", (story.views.length ? text(2, at.u, S * u, "row", "soft", "start") : "") + rows.join("") + always.join("")); }
-function track({ segments, pending }, at, y, now, till) {
-  const { u } = at, bar = at.row - 1.19 * u, parts = [path(`M0 ${r1(y + at.row - 0.03 * u)}H${r1(at.w)}`, "rule")]; let before = 0;
-  for (const { from, to, value, t } of segments) { if (t !== null && from >= now) continue;
-    const x = t === null ? 0 : at.mid(from), w = till(0, to) - x || at.pad, isOpening = t === null, words = value ?? NONE, own = wide(words, M * u, 700), base = y + at.row - 0.27 * u;
+function valuesOf({ segments }, at, now, till) { const size = M * at.u; let before = 0;
+  return segments.filter(({ t, from }) => t === null || from < now).map(({ from, to, value, t }) => {
+    const isOpening = t === null, x = isOpening ? 0 : at.mid(from), w = till(0, to) - x || at.pad, words = value ?? NONE, own = wide(words, size, 700), room = Math.max(w - (isOpening ? 6 : 10), at.pad - 8);
+    const isLeft = !isOpening && to === null && own > w - 10 && own + 8 < x - before, low = isLeft ? x - 4 - own : x + (isOpening ? 5 : 9);
+    before = x + Math.min(own, room) + 12;
+    return { x, w, t, isLeft, words, said: isLeft ? words : cut(words, room, size, 700), low, high: low + (isLeft ? own : Math.min(own, room)) }; }); }
+const overBar = (at) => at.row - 1.19 * at.u; function track(it, at, y, now, till) {
+  const { u } = at, { pending } = it, bar = overBar(at), parts = [path(`M0 ${r1(y + at.row - 0.03 * u)}H${r1(at.w)}`, "rule")], base = y + at.row - 0.27 * u;
+  for (const { x, w, t, isLeft, words, said, low, high } of valuesOf(it, at, now, till)) { const isOpening = t === null;
     parts.push(rect(x, y + bar, Math.max(w, isOpening ? at.pad - 4 : 2) - 1, at.row - bar - 0.05 * u, isOpening ? "seg" : `tint f${colour(t)}`, 2));
     if (!isOpening) parts.push(rect(x, y + bar, 4, at.row - bar - 0.05 * u, `f${colour(t)}`));
-    const isLeft = !isOpening && to === null && own > w - 10 && own + 8 < x - before, room = Math.max(w - (isOpening ? 6 : 10), at.pad - 8);
-    parts.push(`<g>${title(words)}${isLeft ? text(x - 4, base, M * u, words, `b f${colour(t)}`, "end") : text(x + (isOpening ? 5 : 9), base, M * u, cut(words, room, M * u, 700), `b ${isOpening ? "" : `f${colour(t)}`}`, "start")}</g>`);
-    before = x + Math.min(own, room) + 12; }
+    parts.push(`<g>${title(words)}${text(isLeft ? high : low, base, M * u, said, `b ${isOpening ? "" : `f${colour(t)}`}`, isLeft ? "end" : "start")}</g>`); }
   for (const { t, from, to, value, end } of pending) { if (from >= now) continue; const x = at.mid(from), until = till(0, to), w = Math.max(until - x, 2) - 2;
     parts.push(rect(x, y + 0.06 * u, w, bar - 0.1 * u, `pend s${colour(t)}`, 2), text(x + 4, y + bar - 0.14 * u, S * u, cut(value ?? NONE, Math.max(w - 4, at.width(from) / 2), S * u), `f${colour(t)}`, "start"));
     if (end === "abort" && to < now) parts.push(text(until + 1, y + bar - 0.12 * u, S * u, "✗", "b badt", "start")); }
@@ -317,10 +330,16 @@ function looks(story, at, now, views) { const column = story.columns[now - 1], {
   return story.tracks.map(({ key }, index) => { if (key !== column.key) return "";
     const isOwn = column.by === column.t, y = at.top + at.row * index + (isOwn ? 0.4 * u : at.row - 0.6 * u), view = views.find((it) => it.t === column.t), x = at.mid(now - 1), to = view && !isOwn ? view.x : x;
     return path(`M${r1(x)} 0V${r1(y)}H${r1(to)}`, `link s${colour(column.t)}`) + `<circle cx="${r1(to)}" cy="${r1(y)}" r="${r1(0.35 * u)}" class="f${colour(column.t)}"/>`; }).join(""); }
-const looking = (story, at, views) => views.map(({ x, t }, index) => {
-  const { u } = at, room = (views[index + 1]?.x ?? at.w) - x, name = story.names[t], long = `${name}’s view`;
-  return path(`M${r1(x)} ${r1(0.5 * u)}V${r1(at.top + at.row * story.tracks.length)}`, `view s${colour(t)}`) +
-    text(x + 4, u, S * u, wide(long, S * u, 700) < room - 6 ? long : cut(name, room - 4, S * u, 700), `b halo f${colour(t)}`, "start"); }).join("");
+function saidOfView(story, at, views, index) {
+  const { u } = at, own = views.filter((it) => it.at === views[index].at), room = (views[index + 1]?.x ?? at.w) - views[index].x - 6, all = list(own.map(({ t }) => story.names[t]));
+  if (own.at(-1) !== views[index] || room < 2 * u) return own.length > 1 ? "" : fitting([story.names[views[index].t], ""], room, S * u, 700);
+  return fitting(own.length > 1 ? [`views of ${all}`, all] : [`${all}’s view`, all], room, S * u, 700); }
+const looking = (story, at, views, values) => views.map(({ x, t }, index) => {
+  const { u } = at, said = saidOfView(story, at, views, index), isOne = views.filter((it) => it.at === views[index].at).length === 1;
+  const covered = values.flatMap((its, row) => (its.some(({ low, high }) => low - 2 < x && x < high + 2) ? [at.top + at.row * row] : []));
+  const line = covered.map((y) => `V${r1(y + overBar(at))}M${r1(x)} ${r1(y + at.row)}`).join("");
+  return path(`M${r1(x)} ${r1(0.5 * u)}${line}V${r1(at.top + at.row * story.tracks.length)}`, `view s${colour(t)}`) +
+    (said ? text(x + 4, u, S * u, said, `b halo ${isOne ? `f${colour(t)}` : ""}`, "start") : ""); }).join("");
 function always({ states, text: words }, at, y, now, right) { const { u } = at; return states.map((state, index) => {
     if (index > 0 && state.from >= now) return "";
     const x = index ? at.mid(state.from) : 0, next = states[index + 1], to = next && next.from < now ? at.mid(next.from) : Math.max(right, at.pad), w = to - x, mark = state.holds ? "✓" : "✗", said = `${mark} ${state.words}`;
@@ -330,10 +349,10 @@ function tracks(story, at, step) {
   const isEnd = step > at.count, now = Math.min(step, at.count), right = isEnd || now === at.count ? at.w : at.right(now), low = at.top + at.row * (story.tracks.length + story.always.length);
   const till = (_, to) => Math.min(right, to === null || to >= now ? right : at.mid(to));
   const seen = story.views.filter((it) => it.at < now || (it.at === now && isEnd)).sort((one, other) => one.at - other.at);
-  const views = seen.map((it, index) => ({ t: it.t, x: at.left(it.at) + 3 + 5 * seen.slice(0, index).filter((other) => other.at === it.at).length }));
+  const views = seen.map((it, index) => ({ t: it.t, at: it.at, x: at.left(it.at) + 3 + 5 * seen.slice(0, index).filter((other) => other.at === it.at).length }));
   const parts = [DEFS, now > 0 && !isEnd ? rect(at.left(now - 1), 0, at.width(now - 1), low + 4, "band") : ""];
   story.tracks.forEach((it, index) => parts.push(track(it, at, at.top + at.row * index, now, till))); if (!isEnd) parts.push(looks(story, at, now, views));
-  parts.push(looking(story, at, views));
+  parts.push(looking(story, at, views, story.tracks.map((it) => valuesOf(it, at, now, till))));
   story.always.forEach((it, index) => parts.push(always(it, at, at.top + at.row * (story.tracks.length + index) + 0.35 * at.u, now, right)));
   return svg(at.w, low + 4, `Rows after ${now} moves`, parts.join("")); }
 return { keys, tracks }; })(); Story.cards = (() => { const { esc, grouped, wide } = Story.text;
@@ -380,20 +399,20 @@ const hasOutcome = (story) => (outcome) => verdictKind(outcome.verdict) === stor
   outcome.rows.every(([key, value]) => story.tracks.find((it) => it.key === key)?.segments.at(-1).value === value); function endOf({ ends, columns }, t) {
   if (ends[t] !== "abort") return ends[t] === "commit" ? "committed" : "unended";
   return `aborted ${columns.find((it) => it.t === t && it.kind === "abort").cause}`; }
-return { mini, sorted, saidOutcome, BAR, bars, hasOutcome, endOf }; })(); Story.figure = (() => { const { fitting, plain } = Story.text;
-const { COLOURS, L, S, STYLE, XL, rect, r1, svg, text } = Story.svg; const { layout } = Story.layout; const { lanes, names } = Story.lanes;
+return { mini, sorted, saidOutcome, BAR, bars, hasOutcome, endOf }; })(); Story.figure = (() => { const { fitting, plain, wide } = Story.text;
+const { COLOURS, L, M, S, STYLE, XL, rect, r1, svg, text } = Story.svg; const { layout } = Story.layout; const { lanes, names } = Story.lanes;
 const { keys, tracks } = Story.rows; const painted = (drawing, colours) => drawing.replace(/var\(--(\w+)\)/g, (all, name) => colours[name] ?? all);
 function saying(story, step) { if (step === 0) return { say: "", isBad: false };
   if (step > story.columns.length) return { say: plain(story.verdict.say), isBad: story.verdict.kind === "not" || story.verdict.breaks !== null };
   const { say, breaks } = story.columns[step - 1]; return { say: plain(say), isBad: breaks !== null }; }
 function figure(story, { step = story.columns.length + 1, width = 1000, theme = "light", title = "" } = {}) {
   const u = 16, at = layout(story, { w: width, h: 480, u }), hasRows = story.tracks.length + story.always.length > 0, { say, isBad } = saying(story, step);
-  const heading = title ? 1.6 * u : 0, top = heading + (say ? 2.4 * u : 0), low = top + at.lane * story.names.length + 8, wide = at.gutter + at.w;
+  const heading = title ? 1.6 * u : 0, top = heading + (say ? 2.4 * u : 0), low = top + at.lane * story.names.length + 8, room = at.gutter + at.w, size = [XL, L, M].find((it) => wide(say, it * u, 700) <= room - 4) ?? M;
   const parts = [[0, top, names(story, at, step)], [at.gutter, top, lanes(story, at, step)], ...(hasRows ? [[0, low, keys(story, at)], [at.gutter, low, tracks(story, at, step)]] : [])];
   const high = hasRows ? low + Number(/height="([\d.]+)"/.exec(parts[3][2])[1]) : low;
-  const words = (title ? text(2, 1.1 * u, S * u, fitting([title], wide - 4, S * u), "soft", "start") : "") + text(2, heading + 1.7 * u, (say.length > 60 ? L : XL) * u, say, isBad ? "b badt" : "b", "start");
-  const inside = `<style>${STYLE}</style>${rect(0, 0, wide, high, "chip")}${words}${parts.map(([x, y, part]) => `<g transform="translate(${r1(x)} ${r1(y)})">${part}</g>`).join("")}`;
-  return painted(svg(wide, high, title || "a run", inside), COLOURS[theme]); }
+  const words = (title ? text(2, 1.1 * u, S * u, fitting([title], room - 4, S * u), "soft", "start") : "") + text(2, heading + 1.7 * u, size * u, fitting([say], room - 4, size * u, 700), isBad ? "b badt" : "b", "start");
+  const inside = `<style>${STYLE}</style>${rect(0, 0, room, high, "chip")}${words}${parts.map(([x, y, part]) => `<g transform="translate(${r1(x)} ${r1(y)})">${part}</g>`).join("")}`;
+  return painted(svg(room, high, title || "a run", inside), COLOURS[theme]); }
 return { figure }; })(); Story.log = (() => { const { parse } = Story.text; const MOST = { txns: 12, operations: 60 }; const named = (name) => `{${name}}`;
 const same = (one, other) => JSON.stringify(one) === JSON.stringify(other); const isLog = (text) => /^\ufeff?\s*\{/.test(text); function read(text) {
   const lines = text.replace(/^\ufeff/, "").split("\n").flatMap((line, index) => (line.trim() ? [{ ...parse(line), line: index + 1 }] : []));
@@ -446,14 +465,13 @@ function edgeEnds({ kind, key, read: seen, written, from, to, operations, words 
   const isAt = (it) => same(it.key, key), reads = (name, value) => own(name).findLast((it) => foundBy(moves[it]).some((pair) => same(pair, [key, value]))) ?? own(name).findLast((it) => (moves[it].kind === "read" || moves[it].kind === "miss") && isAt(moves[it])) ?? own(name).findLast((it) => moves[it].kind === "scan");
   const writes = (name, value) => own(name).findLast((it) => moves[it].kind === "write" && isAt(moves[it]) && (value === null || value === undefined || same(moves[it].value, value))) ?? own(name).findLast((it) => moves[it].kind === "write" && isAt(moves[it]));
   return [kind === "rw" ? reads(from, seen) : writes(from, kind === "wr" ? seen ?? written : null), kind === "wr" ? reads(to, seen ?? written) : writes(to, kind === "rw" ? written : null)] .map((it, index) => it ?? own(index ? to : from).at(-1)); }
-const VERDICT = { serial: "serializable", holds: "serializable", serializable: "serializable", "not serial": "not serializable", fails: "not serializable", "not serializable": "not serializable" };
 function playOfLog(text, answer) { const { rows, txns: all } = read(text), edges = answer.cycle ?? [], txns = chosen(all, edges);
   const moves = txns.flatMap((txn) => [...txn.ops.map((op) => moveOf(op, txn.name, txn.line)), endOf(txn)]);
   const cycle = edges.map((edge) => ({ ...edge, from: edge.from === null ? null : String(edge.from), to: edge.to === null ? null : String(edge.to), ends: edgeEnds(edge, moves) }));
   const order = constraints(txns, moves, cycle).order(moves), place = (index) => order.indexOf(index) + 1;
   const told = order.map((index) => ({ ...moves[index], ...found(moves[index], moves, rows, place) })); return {
     kind: "log", level: answer.level ?? "serializable", names: txns.map(({ name }) => name), levels: txns.map(({ level }) => level ?? "serializable"), order: null, moves: told, breaks: null,
-    together: { verdict: VERDICT[answer.verdict] ?? "unknown", anomaly: answer.anomaly ?? "", order: answer.serial_order?.map(String) ?? [], cycle: cycle.map((edge) => ({ ...edge, moves: edge.ends.map((it) => (it === undefined ? null : place(it))) })) },
+    together: { verdict: answer.verdict, anomaly: answer.anomaly ?? "", order: answer.serial_order?.map(String) ?? [], cycle: cycle.map((edge) => ({ ...edge, moves: edge.ends.map((it) => (it === undefined ? null : place(it))) })) },
     about: txns.length < all.length ? `The log has ${all.length} transactions; these are ${edges.length ? "those of the cycle" : "the first ones"}.` : "", }; }
 function found(it, moves, rows, place) {
   if (it.found !== undefined) return { writer: { txn: moves[it.found].txn, move: place(it.found) }, why: `${named(moves[it.found].txn)} wrote it` };
@@ -542,7 +560,9 @@ function result(title, story, answers) {
   const asked = questions(story).filter(({ position }) => answers.has(position)), right = asked.filter(({ position, right: it }) => answers.get(position) === it).length;
   const line = ({ position, words, right: it }) => `${position + 1}. ${plain(words)} ${plain(answers.get(position))} ${answers.get(position) === it ? "✓" : `✗ (${plain(it)})`}`;
   return [`${title}: ${right} of ${asked.length} right`, ...asked.map(line)].join("\n"); }
-function worksheet(story) {
+"##;
+
+pub(crate) const SCRIPT_SECOND: &str = r##"function worksheet(story) {
   const item = ({ position, words, choices }) => `<li value="${Math.min(position + 1, story.columns.length + 1)}"><p>${rich(words, story.names)}</p><p>${choices.map((it) => `☐ ${rich(it, story.names)}`).join(" &nbsp; ")}</p></li>`;
   const asked = new Map(questions(story).map((it) => [it.position, it]));
   const plainly = (column, position) => `<li value="${position + 1}"><p>${rich(column.kind === "scan" ? `${named(column.txn)} scans: ______` : column.kind === "commit" || column.kind === "abort" ? `${named(column.txn)} ends: ______` : column.kind === "read" ? `${named(column.txn)} reads ${column.key}: ______` : column.say, story.names)}</p></li>`;
@@ -552,8 +572,9 @@ function worksheet(story) {
 return { questionAt, questions, questionHtml, result, worksheet }; })(); Story.player = (() => { const { BAR } = Story.cards;
 const { cards, compared, sentence, sentenceRoom, stage, told } = Story.view; const { questionAt, questionHtml, questions, result } = Story.ask;
 const { samePlace } = Story.story; const { esc, rich } = Story.text; const NARROW = "(max-width: 50rem)";
-const FORWARD = { ArrowRight: 1, ArrowDown: 1, PageDown: 1, ArrowLeft: -1, ArrowUp: -1, PageUp: -1 }; const READING = 700; class Player { constructor(host) {
-    this.host = host; this.model = this.place = null; this.reading = -Infinity; this.answers = new Map(); this.isAsking = false; this.listen(); }
+const FORWARD = { ArrowRight: 1, ArrowDown: 1, PageDown: 1, ArrowLeft: -1, ArrowUp: -1, PageUp: -1 }; const READING = 700; const LEAST_CARDS = 10;
+class Player { constructor(host) { this.host = host; this.model = this.place = null; this.reading = -Infinity; this.answers = new Map(); this.isAsking = false;
+    this.listen(); }
   get story() { return this.model?.stories[this.place.level] ?? null; }
   get end() { return (this.story?.columns.length ?? 0) + 1; }
   show(model, place, { scrolls = true } = {}) { const isNew = model !== this.model || place.level !== this.place?.level;
@@ -568,22 +589,24 @@ const FORWARD = { ArrowRight: 1, ArrowDown: 1, PageDown: 1, ArrowLeft: -1, Arrow
   feedback(story) { const { asks, step } = this.place, answer = this.answers.get(step - 1); if (!asks || answer === undefined) return "";
     const isRight = answer === questionAt(story, step - 1).right;
     return `<p class="guess ${isRight ? "" : "not"}">${isRight ? "✓ Right." : `✗ The guess was: ${rich(answer, story.names)}.`}</p>`; }
-"##;
-
-pub(crate) const SCRIPT_SECOND: &str = r##"  showCards(story) {
+  showCards(story, high = null) {
     const { model, place, unit } = this, box = byId("st-cards"), isHidden = place.mode !== "" || place.asks || model.levels.length < 2, narrow = matchMedia(NARROW).matches;
     box.hidden = isHidden; if (isHidden) return put(box, ""); box.style.setProperty("--cards", model.levels.length);
-    const scrolled = [...box.querySelectorAll(".level")].map((it) => it.scrollTop);
+    if (high === null) box.style.removeProperty("--high"); else box.style.setProperty("--high", `${high}px`);
+    for (const it of box.querySelectorAll(".more")) it.remove(); const scrolled = [...box.querySelectorAll(".level")].map((it) => it.scrollTop);
     put(box, cards(model, story, place, { w: box.clientWidth, u: unit, narrow })); box.querySelectorAll(".level").forEach((card, index) => {
       card.scrollTop = scrolled[index] ?? 0; if (card.scrollHeight <= card.clientHeight + 2) return;
-      const all = card.querySelectorAll("[data-order]").length, bar = BAR * unit, top = card.scrollTop + card.lastElementChild.getBoundingClientRect().top - card.getBoundingClientRect().top, whole = Math.floor((card.clientHeight - top - 1.2 * unit) / bar), h = card.clientHeight - top - whole * bar + 1;
+      const all = card.querySelectorAll("[data-order]").length, bar = BAR * unit, top = card.scrollTop + card.lastElementChild.getBoundingClientRect().top - card.getBoundingClientRect().top - card.clientTop, whole = Math.floor((card.clientHeight - top - 1.2 * unit) / bar), h = card.clientHeight - top - whole * bar + 1;
       card.insertAdjacentHTML("beforeend", `<div class="more" style="height: ${h}px; margin-top: -${h}px">${all - whole} more ↓</div>`); }); return undefined; }
-  showStage(story) {
+  showStage(story, isLast = false) {
     const { model, place, unit: u } = this, main = byId("st-main"), view = byId("st-stage"), narrow = matchMedia(NARROW).matches, style = getComputedStyle(main);
-    const w = main.clientWidth - parseFloat(style.paddingLeft) - parseFloat(style.paddingRight), below = byId("st-cards").hidden ? 0 : byId("st-cards").offsetHeight + 0.5 * u;
+    const w = Math.floor(main.getBoundingClientRect().width - parseFloat(style.paddingLeft) - parseFloat(style.paddingRight)) - 1, below = byId("st-cards").hidden ? 0 : byId("st-cards").offsetHeight + 0.5 * u;
     const room = { w, h: narrow ? 0 : main.clientHeight - byId("st-say").offsetHeight - below - 1.2 * u, u };
     const { html, at } = place.mode === "compare" ? compared(model, story, place.step, room) : stage(story, place.step, room), hadFocus = view.contains(document.activeElement) && document.activeElement !== view;
-    put(byId("st-grid"), html); if (hadFocus) (view.querySelector('[tabindex="0"]') ?? view).focus({ preventScroll: true });
+    put(byId("st-grid"), html); const left = byId("st-cards").offsetHeight - (view.scrollHeight - view.clientHeight) - 1;
+    if (!narrow && !isLast && below > 0 && view.scrollHeight > view.clientHeight + 1 && left >= LEAST_CARDS * u) { this.showCards(story, left);
+      this.showStage(story, true); return; }
+    if (hadFocus) (view.querySelector('[tabindex="0"]') ?? view).focus({ preventScroll: true });
     const x = place.step ? at.left(place.step - 1) : 0, edge = view.clientWidth - at.gutter;
     if (x < view.scrollLeft || x + at.width(0) * 1.5 > view.scrollLeft + edge) view.scrollLeft = Math.max(0, x - edge * 0.6);
     view.classList.toggle("cut", view.scrollWidth > view.clientWidth + 1); }
@@ -693,7 +716,7 @@ class StoryPage { constructor(sheet, objects, panels) { Object.assign(this, { sh
     const asked = order?.split(".") ?? this.own.order ?? []; this.order = this.has(asked) ? asked : this.own.order ?? [];
     this.place = { ...this.place, level: front ? level : levelOf(this.own), step: Number(at || 0), mode: "" };
     if (this.isLog) this.place.level = "serializable"; this.show(); return true; } }
-return { StoryPage }; })(); "use strict"; const sheet = JSON.parse(document.getElementById("data").textContent);
+return { StoryPage }; })(); "use strict"; const sheet = Story.text.parse(document.getElementById("data").textContent);
 let data = sheet.kind === "levels" ? sheet.trees[0] : sheet; const $ = (id) => document.getElementById(id);
 const linesOf = (text) => text.split("\n").filter((line) => line !== "");
 const esc = (text) => String(text).replace(/[&<>"]/g, (it) => ({ "&": "&amp;", "<": "&lt;", ">": "&gt;", '"': "&quot;" })[it]); function eventOf(line) {
@@ -759,10 +782,10 @@ class Run { constructor({ opening, waits, asked }, steps, done) { this.done = do
     return [...edges.values()]; } }
 const isTree = data.kind === "tree"; let tree = null; let asked = null;
 const askedTo = (place) => [...(asked ?? []), ...namesOf(tree, tree.path).slice(asked?.length ?? 0)].slice(0, place); function treeOf(data) {
-  const text = (at) => data.texts[at]; const steps = data.steps.map(([line, changed, gone, why, sees, waits, ends, rule, sentence, definition, comes]) => ({
-    line: text(line), changed: text(changed), gone: text(gone), why: text(why), sees: text(sees), waits: waits === null ? null : text(waits), ends: text(ends), rule: text(rule),
+  const text = (at) => data.texts[at]; const steps = data.steps.map(([line, changed, gone, why, sees, ends, rule, sentence, definition, comes, waits]) => ({
+    line: text(line), changed: text(changed), gone: text(gone), why: text(why), sees: text(sees), waits: waits === undefined ? null : text(waits), ends: text(ends), rule: text(rule),
     sentence: text(sentence), definition: text(definition), comes: text(comes), }));
-  const nodes = data.nodes.map(([parent, who, places, outcome, counts, joins = []], index) => ({ index, parent, who: who - 1, steps: places.map((at) => steps[at]), outcome, next: [], counts, joins, own: new Set() }));
+  const nodes = data.nodes.map(([parent, who, places, [outcome = null], counts, joins = []], index) => ({ index, parent, who: who - 1, steps: places.map((at) => steps[at]), outcome, next: [], counts, joins, own: new Set() }));
   for (const node of nodes.slice(1)) nodes[node.parent].next[node.who] = node.index;
   for (const node of nodes) for (const [who, joined] of node.joins) node.next[who - 1] = joined; for (const node of [...nodes].reverse()) {
     if (node.outcome !== null) node.own.add(node.outcome); for (const outcome of node.own) nodes[node.parent].own.add(outcome); }
@@ -1469,7 +1492,9 @@ function nextMoves({ u, x, cell, laneY, cellY, cellH, tight }) {
 
 /** The head of a lane: name, its short form where it has one, level, and those of its fields that say something. */
 function laneHead(id, y, { laneH: h, gutter, u, isPhone, tight }) {
-  const it = run.txn(id, here);
+"##;
+
+pub(crate) const SCRIPT_THIRD: &str = r#"  const it = run.txn(id, here);
   const short = shortOf(id);
   const tokenW = short === it.name || isPhone ? 0 : widthOf(short, 0.9 * u, 700) + 0.6 * u;
   const room = gutter - tokenW - 0.8 * u;
@@ -1520,9 +1545,7 @@ function laneStrip(id, y, { stripH: h, x, xEdge, first, shownLast, horizon, u, c
     out.push(`<rect class="strip ${phase.kind}${isOpen ? " open" : ""}" x="${f1(left)}" y="${f1(top)}" width="${f1(right - left)}" height="${f1(h)}"><title>${phase.kind}</title></rect>`);
     const text = tight ? "" : fitting(PHASES[phase.kind], right - left - 0.6 * u, 0.95 * u, 600);
     if (text) out.push(`<g><rect class="plate ${phase.kind}" x="${f1(left + 0.2 * u)}" y="${f1(y + 0.28 * u)}" width="${f1(widthOf(text, 0.95 * u, 600) + 0.4 * u)}" height="${f1(h - 0.16 * u)}"/><text class="phase ${phase.kind}" x="${f1(left + 0.4 * u)}" y="${f1(y + 0.2 * u + h * 0.78)}">${text}</text></g>`);
-"##;
-
-pub(crate) const SCRIPT_THIRD: &str = r#"  });
+  });
   return out;
 }
 
@@ -2141,20 +2164,22 @@ function edgeLabel({ kind, label, wide, spot }, u) {
 
 /* ---- who comes before whom */
 
-/** What is said of the committed transactions together, at the end of a run that isn't serial by end time. */
+const { verdictKind } = Story.story;
+
+/** What is said of the committed transactions together, at the end of a run that isn't serializable by end time. */
 function togetherHere() {
   const told = isTree || here !== run.last ? null : data.together;
-  return told && told.verdict !== "serial" ? told : null;
+  return told && verdictKind(told.verdict) !== "serial" ? told : null;
 }
 
 /** Whether the committed transactions can follow one another, with the order or with who comes before whom. */
 function togetherSaid(byEnd) {
   const told = data.together;
-  switch (told.verdict) {
+  switch (verdictKind(told.verdict)) {
     case "serial": return `<b>yes</b>${byEnd ? `, by end time: ${byEnd}` : ""}`;
-    case "another order": return `<b>yes</b>, in another order: ${told.order.map(tagName).join(", then ")}${byEnd ? ` (by end time: ${byEnd})` : ""}`;
-    case "not serial": return `<b>no</b>: ${told.cycle.length > 1 ? told.cycle.map(beforeSaid).join(", ") : esc(told.cycle[0]?.words ?? "no order")}`;
-    default: return "not by end time; whether in another order is unknown";
+    case "other": return `<b>yes</b>, in another order: ${told.order.map(tagName).join(", then ")}${byEnd ? ` (by end time: ${byEnd})` : ""}`;
+    case "not": return `<b>no</b>: ${told.cycle.length > 1 ? told.cycle.map(beforeSaid).join(", ") : esc(told.cycle[0]?.words ?? "no order")}`;
+    default: return "not serializable by end time; whether in another order is unknown";
   }
 }
 
@@ -2382,26 +2407,30 @@ function eventsOfMove(shown) {
 const total = (counts) => counts.reduce((sum, it) => sum + it, 0);
 const isWhole = () => tree.nodes[tree.path.at(-1)].next.length === 0;
 
-/** The parts of an outcome: its ends and rows, and the verdict, to which the line of an invariant belongs that it breaks. */
-function outcomeParts(text) {
-  const parts = text.split("; ");
-  const breaks = /^breaks /.test(parts.at(-1)) ? `; ${parts.pop()}` : "";
-  const verdict = parts.pop() + breaks;
-  return { parts, verdict, isGood: !breaks && verdict !== "not serial" };
-}
+/** The rows at the end of an outcome. */
+const rowsAtEnd = ({ rows }) => rows.map(([key, value]) => `${key}=${value}`).join(" ");
 
-/** A verdict of an outcome's text in the words of a story. */
-const verdictSaid = (verdict) => verdict.replace(/\bserial\b/, "serializable");
+/** The ends and the rows of an outcome, as `hek permute` words them. */
+const endsAndRows = (outcome) => [...outcome.ends.map(({ txn, end }) => `${txn} ${end}`), `rows ${rowsAtEnd(outcome)}`.trim()].join("; ");
 
-/** An outcome in few words: of more than two transactions those that don't commit. */
-function outcomeOf(text) {
-  const { parts, verdict } = outcomeParts(text);
-  const txns = parts.filter((it) => /(committed|aborted|unended)/.test(it) && !/^rows/.test(it)).map((it) => it.split(" "));
-  const rows = parts.find((it) => it.startsWith("rows")) ?? "";
-  const telling = txns.length > 2 ? txns.filter(([, state]) => state !== "committed") : txns;
-  const endOf = (state, cause) => (state === "committed" ? "commits" : state === "unended" ? "goes on" : `aborts (${cause})`);
-  const said = telling.map(([name, state, cause]) => `${tagName(name)} ${endOf(state, cause)}`).join(", ") || "all commit";
-  return `${said}<span class="soft"> \u00b7 ${esc(rows.replace("rows ", ""))}${verdict === "serial" ? "" : ` \u00b7 <b>${esc(verdictSaid(verdict))}</b>`}</span>`;
+/** The verdict of an outcome, and the line of the first invariant that it breaks. */
+const verdictOf = ({ verdict, breaks }) => verdict + (breaks === undefined ? "" : `; breaks line ${breaks}`);
+
+/** An outcome whole, as a line of `hek permute` has it. */
+const outcomeText = (outcome) => `${endsAndRows(outcome)}; ${verdictOf(outcome)}`;
+
+/** Whether an outcome is serializable, and breaks no invariant. */
+const isGood = ({ verdict, breaks }) => breaks === undefined && verdictKind(verdict) !== "not";
+
+/** How a transaction ends, in a sentence. */
+const endSaid = (end) => (end === "committed" ? "commits" : end === "unended" ? "goes on" : `aborts (${end.replace("aborted ", "")})`);
+
+/** An outcome in few words: of more than two transactions those that don't commit. A verdict that is serializable by end time isn't said. */
+function outcomeOf(outcome) {
+  const { ends, verdict, breaks } = outcome, isPlain = breaks === undefined && verdictKind(verdict) === "serial";
+  const telling = ends.length > 2 ? ends.filter(({ end }) => end !== "committed") : ends;
+  const said = telling.map(({ txn, end }) => `${tagName(txn)} ${endSaid(end)}`).join(", ") || "all commit";
+  return `${said}<span class="soft"> \u00b7 ${esc(rowsAtEnd(outcome))}${isPlain ? "" : ` \u00b7 <b>${esc(verdictOf(outcome))}</b>`}</span>`;
 }
 
 const letterOf = (outcome) => "ABCDEFGHIJKLMNOPQRSTUVWXYZ"[outcome] ?? String(outcome);
@@ -2488,8 +2517,10 @@ function showTree() {
     const joins = isJoin(tree, node.index, next);
     const idle = (joins ? hasEnded(tree.names[who]) : it.steps.length === 0) ? ' <span class="soft">(has aborted)</span>' : "";
     return `<button type="button" class="choice${isTaken ? " taken" : ""}" data-next="${next}"${joins ? ` title="${esc(joinSaid(next))}"` : ""}><kbd>${who + 1}</kbd> <span>${joins ? `${JOINS} ` : ""}${(isCrowd ? shortTag : tagName)(tree.names[who])} <b>${esc(move)}</b>${idle}</span>${outcomeBar(it.counts)}<span class="count">${isSecret ? "" : countsSaid(it.counts, room)}</span></button>`;
-  }).join("");
-  const found = whole && isAt ? `<p class="whose">This order is complete.</p><p class="final">${outcomeOf(data.outcomes[node.outcome])}</p><p>All together: <b>${esc(verdictSaid(outcomeParts(data.outcomes[node.outcome]).verdict))}</b>. ${reachSaid(node)}</p>` : "";
+"#;
+
+pub(crate) const SCRIPT_FOURTH: &str = r##"  }).join("");
+  const found = whole && isAt ? `<p class="whose">This order is complete.</p><p class="final">${outcomeOf(data.outcomes[node.outcome])}</p><p>All together: <b>${esc(verdictOf(data.outcomes[node.outcome]))}</b>. ${reachSaid(node)}</p>` : "";
   const inside = isAt ? "" : `<p class="whose">In the middle of a move</p><p>\u2192 goes on with it.</p>`;
   $("because").innerHTML = `<div class="moves">${found || inside || `<p class="whose">Who moves next?</p><div class="pick${tree.isMerged ? " merged" : ""}${isCrowd ? " crowd" : ""}" style="--n:${isCrowd ? Math.ceil(ways / 2) : Math.min(ways, 3)}">${choices}</div>`}</div>`;
   // the outcomes that can still be reached
@@ -2498,8 +2529,8 @@ function showTree() {
     if (isSecret) $("words-title").textContent = "Outcomes: what do you think?";
     const shown = isSecret ? [] : outcomesShown(node.counts);
     const rows = shown.map((at) => {
-      const [text, count] = [data.outcomes[at], node.counts[at]];
-      return `<li class="${count ? "" : "out"}"><span class="n">${count}</span><span class="swatch o${at % 6}"></span><b>${letterOf(at)}</b><span class="what">${outcomeOf(text)}</span><button type="button" data-find="${at}"${count ? "" : " disabled"}>find one</button><span class="rail"><i class="o${at % 6}" style="width:${f1((100 * count) / Math.max(reach, 1))}%"></i></span></li>`;
+      const count = node.counts[at];
+      return `<li class="${count ? "" : "out"}"><span class="n">${count}</span><span class="swatch o${at % 6}"></span><b>${letterOf(at)}</b><span class="what">${outcomeOf(data.outcomes[at])}</span><button type="button" data-find="${at}"${count ? "" : " disabled"}>find one</button><span class="rail"><i class="o${at % 6}" style="width:${f1((100 * count) / Math.max(reach, 1))}%"></i></span></li>`;
     });
     const left = isSecret ? 0 : data.outcomes.length - shown.length;
     const digits = Math.max(...shown.map((at) => String(tree.nodes[0].counts[at]).length));
@@ -2572,17 +2603,18 @@ const levels = { trees: [], shown: null, order: [] };
 
 function plantLevels() {
   levels.trees = sheet.trees.map(treeOf);
-  const marked = outcomesAtLevels().find(({ text, counts }) => !outcomeParts(text).isGood && counts.some(Boolean)) ?? outcomesAtLevels()[0];
+  const marked = outcomesAtLevels().find(({ outcome, counts }) => !isGood(outcome) && counts.some(Boolean)) ?? outcomesAtLevels()[0];
   const at = marked.counts.findIndex(Boolean);
-  levels.order = orderTo(levels.trees[at], sheet.trees[at].outcomes.indexOf(marked.text));
-"#;
+  levels.order = orderTo(levels.trees[at], placeOf(sheet.trees[at], marked.text));
+}
 
-pub(crate) const SCRIPT_FOURTH: &str = r##"}
+/** The place among a tree's outcomes of the one with a text. */
+const placeOf = (its, text) => its.outcomes.findIndex((it) => outcomeText(it) === text);
 
-/** Each outcome with how many orders have it at each level. */
+/** Each outcome, with its text and how many orders have it at each level. */
 function outcomesAtLevels() {
-  const texts = [...new Set(sheet.trees.flatMap((it) => it.outcomes))];
-  return texts.map((text) => ({ text, counts: sheet.trees.map((it, at) => levels.trees[at].nodes[0].counts[it.outcomes.indexOf(text)] ?? 0) }));
+  const all = new Map(sheet.trees.flatMap((it) => it.outcomes).map((it) => [outcomeText(it), it]));
+  return [...all].map(([text, outcome]) => ({ text, outcome, counts: sheet.trees.map((it, at) => levels.trees[at].nodes[0].counts[placeOf(it, text)] ?? 0) }));
 }
 
 /** The first order of a tree that has an outcome: the names of those that move. */
@@ -2595,9 +2627,8 @@ function columnAt(at) {
   const steps = path.flatMap((node) => its.nodes[node].steps).map((it) => eventOf(it.line)).filter((it) => /^(read|scan|insert|update|delete|precommit|commit|fail)$/.test(it.op) || it.op === "detect").filter(isNews());
   const lines = steps.map((it) => `<li class="${kindOf(it)}"><b class="t c${Math.max(its.names.indexOf(it.name), 0) % 6}">${esc(it.name ?? "")}</b> ${esc(it.event)} <span aria-hidden="true">\u2192</span> <b>${esc(it.reply)}</b></li>`);
   const outcome = its.nodes[path.at(-1)].outcome;
-  const text = outcome === null ? "" : sheet.trees[at].outcomes[outcome];
   const other = askedOf(its, path, levels.order) === null ? "" : `<p class="joined">${JOINS} Shown as ${esc(namesOf(its, path).join(" "))}, which ends the same.</p>`;
-  return `<section><h3>${LEVELS[at]} <button type="button" data-level="${at}">story</button></h3>${other}<ol>${lines.join("")}</ol><p class="ends">${endsSaid(text)}</p></section>`;
+  return `<section><h3>${LEVELS[at]} <button type="button" data-level="${at}">story</button></h3>${other}<ol>${lines.join("")}</ol><p class="ends">${outcome === null ? "" : endsSaid(sheet.trees[at].outcomes[outcome])}</p></section>`;
 }
 
 /** Whether a step says what its transaction hasn't said last. */
@@ -2607,25 +2638,24 @@ function isNews() {
 }
 
 /** An outcome in words: how each transaction ends, the rows, and the verdict. */
-function endsSaid(text) {
-  const { parts, verdict, isGood } = outcomeParts(text);
-  return `${parts.map(esc).join("; ")}; <b class="${isGood ? "good" : "bad"}">${esc(verdictSaid(verdict))}</b>`;
+function endsSaid(outcome) {
+  return `${esc(endsAndRows(outcome))}; <b class="${isGood(outcome) ? "good" : "bad"}">${esc(verdictOf(outcome))}</b>`;
 }
 
 function showLevels() {
   const orders = total(levels.trees[0].nodes[0].counts);
-  const rows = outcomesAtLevels().map(({ text, counts }) => {
+  const rows = outcomesAtLevels().map(({ text, outcome, counts }) => {
     const cells = counts.map((count, at) => (count ? `<td class="n"><button type="button" data-level="${at}" data-outcome="${esc(text)}" aria-label="${count} orders at ${LEVELS[at]}, show one of: ${esc(text)}">${count}</button></td>` : '<td class="n none">0</td>'));
-    return `<tr>${cells.join("")}<td>${endsSaid(text)}</td></tr>`;
+    return `<tr>${cells.join("")}<td>${endsSaid(outcome)}</td></tr>`;
   });
   $("levels").innerHTML = `<p class="plain long">${esc((isSecret ? data.question : data.about) || "The same moves, with all transactions at one level.")}</p>
     <table><caption>${orders} orders of the moves at each level. A number shows the story of one of them.</caption><thead><tr>${LEVELS.map((it) => `<th scope="col">${it}</th>`).join("")}<th scope="col">ends, rows, verdict</th></tr></thead><tbody>${isSecret ? "" : rows.join("")}</tbody></table>
     <h2>One order: ${levels.order.map(esc).join(" ")}</h2><div class="columns">${isSecret ? "" : LEVELS.map((it, at) => columnAt(at)).join("")}</div>`;
 }
 
-/** Goes to the story of the order that stands in the columns, or of the first one with an outcome, at a level. */
-function goToLevel(at, outcome) {
-  if (outcome !== undefined) levels.order = orderTo(levels.trees[at], sheet.trees[at].outcomes.indexOf(outcome));
+/** Goes to the story of the order that stands in the columns, or of the first one whose outcome has a text, at a level. */
+function goToLevel(at, text) {
+  if (text !== undefined) levels.order = orderTo(levels.trees[at], placeOf(sheet.trees[at], text));
   takeLevel(at);
   tree.path = pathOf(tree, levels.order);
   run = runOfPath();
@@ -2816,10 +2846,7 @@ const firstOrder = (outcome) => movesOn(tree, 0, outcome).order.join(" ");
 
 function outcomesInPrint() {
   const counts = tree.nodes[0].counts;
-  const rows = data.outcomes.map((text, at) => {
-    const { parts, verdict } = outcomeParts(text);
-    return `<tr><td>${letterOf(at)}</td><td>${counts[at]}</td><td>${parts.map(esc).join("; ")}</td><td><b>${esc(verdict)}</b></td><td>${esc(firstOrder(at))}</td></tr>`;
-  });
+  const rows = data.outcomes.map((outcome, at) => `<tr><td>${letterOf(at)}</td><td>${counts[at]}</td><td>${esc(endsAndRows(outcome))}</td><td><b>${esc(verdictOf(outcome))}</b></td><td>${esc(firstOrder(at))}</td></tr>`);
   return `<caption>${esc(data.title)}. ${esc(data.about ?? "")} ${total(counts)} orders of the moves.</caption><thead><tr><th></th><th>orders</th><th>ends and rows</th><th>verdict</th><th>the first of these orders</th></tr></thead><tbody>${rows.join("")}</tbody>`;
 }
 

@@ -11,7 +11,6 @@ use crate::script::{SCRIPT_FIRST, SCRIPT_FOURTH, SCRIPT_SECOND, SCRIPT_THIRD};
 use crate::style::STYLE;
 use hek_report::{HekFault, send};
 use hek_rules::NoMemory;
-use serde_json::Value;
 use std::alloc::Global;
 use std::io::Write;
 
@@ -19,7 +18,7 @@ use std::io::Write;
 pub(crate) fn write_sheet<'a, W: Write>(
     alloc: Global,
     heading: &Heading<'_>,
-    data: &Value,
+    data: &[u8],
     out: &mut W,
 ) -> Result<(), HekFault<'a>>
     ensures written { OnOk result (WritesPage (W.contents out.old) (W.contents out.new)) }
@@ -29,10 +28,10 @@ pub(crate) fn write_sheet<'a, W: Write>(
     send(&mut sheet, out)
 }
 
-fn sheet_of(alloc: Global, heading: &Heading<'_>, data: &Value) -> Result<Vec<u8>, NoMemory> {
+fn sheet_of(alloc: Global, heading: &Heading<'_>, data: &[u8]) -> Result<Vec<u8>, NoMemory> {
     let mut sheet = Vec::new(alloc);
     put_head(alloc, heading, &mut sheet)?;
-    put_data(alloc, data, &mut sheet)?;
+    put_bytes(data, &mut sheet)?;
     put_part(BETWEEN, &mut sheet)?;
     put_bytes(heading.plays, &mut sheet)?;
     put_foot(&mut sheet)?;
@@ -93,11 +92,6 @@ fn put_title_of(alloc: Global, heading: &Heading<'_>, sheet: &mut Vec<u8>) -> Re
     put_title(title.as_str(), sheet)
 }
 
-fn put_data(alloc: Global, data: &Value, sheet: &mut Vec<u8>) -> Result<(), NoMemory> {
-    let json = data.to_string(alloc)?;
-    put_json(json.as_str(), sheet)
-}
-
 /// Appends a title as a text of HTML.
 fn put_title(title: &str, sheet: &mut Vec<u8>) -> Result<(), NoMemory> {
     for byte in title.as_bytes() {
@@ -110,18 +104,11 @@ fn put_title(title: &str, sheet: &mut Vec<u8>) -> Result<(), NoMemory> {
     Ok(())
 }
 
-/// Appends data, with each byte as a page has it.
-fn put_json(json: &str, sheet: &mut Vec<u8>) -> Result<(), NoMemory>
-    ensures { OnOk result (sheet.new.items ≡ sheet.old.items ++ flat_map escaped json.now) }
-{
-    put_bytes(json.as_bytes(), sheet)
-}
-
 /// Appends bytes, each as a page has it.
-fn put_bytes(json: &[u8], sheet: &mut Vec<u8>) -> Result<(), NoMemory>
-    ensures { OnOk result (sheet.new.items ≡ sheet.old.items ++ flat_map escaped json.now) }
+fn put_bytes(bytes: &[u8], sheet: &mut Vec<u8>) -> Result<(), NoMemory>
+    ensures { OnOk result (sheet.new.items ≡ sheet.old.items ++ flat_map escaped bytes.now) }
 {
-    let mut rest = json;
+    let mut rest = bytes;
     while let Some((byte, later)) = rest.split_first() {
         put_byte(*byte, sheet)?;
         rest = later;

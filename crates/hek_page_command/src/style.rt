@@ -53,8 +53,8 @@ pub(crate) const STYLE: &str = r#"/* Written by tools/assets. */
 .names { position: sticky; left: 0; background: var(--paper); z-index: 1; }
 .lanes [data-step] { cursor: pointer; }
 .lanes g:focus-visible { outline: 3px solid var(--ink); outline-offset: 2px; }
-#st-cards { display: grid; grid-template-columns: repeat(var(--cards, 3), minmax(0, 1fr)); gap: 0.8rem; margin-top: auto; padding-top: 0.5rem; flex: 0 0 auto; max-height: 14.5rem; overflow: hidden; }
-.level { max-height: 12.5rem; border: 1px solid var(--line); border-radius: 0.4rem; padding: 0.35rem 0.6rem 0.5rem; min-width: 0; overflow-y: auto; position: relative; }
+#st-cards { display: grid; grid-template-columns: repeat(var(--cards, 3), minmax(0, 1fr)); gap: 0.8rem; margin-top: auto; padding-top: 0.5rem; flex: 0 0 auto; max-height: var(--high, 14.5rem); overflow: hidden; }
+.level { max-height: calc(var(--high, 14.5rem) - 2rem); border: 1px solid var(--line); border-radius: 0.4rem; padding: 0.35rem 0.6rem 0.5rem; min-width: 0; overflow: hidden auto; scrollbar-width: none; position: relative; }
 .level[data-here] { border: 3px solid var(--ink); padding: calc(0.35rem - 2px) calc(0.6rem - 2px) calc(0.5rem - 2px); }
 .story .card { display: block; width: 100%; margin: 0 0 0.35rem; border: 0; padding: 0; text-align: left; line-height: 0; background: none; }
 .level .head { display: flex; justify-content: space-between; gap: 0.5rem; line-height: 1.5; font-weight: 700; }

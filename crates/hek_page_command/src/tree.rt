@@ -3,7 +3,7 @@
 ghost use Rattle.std.specs.Prelude.{IfErr};
 ghost use Rattle.hek_page_command.specs.Explorers.{IsExploreStop};
 
-use crate::played::{OrderStory, order_story};
+use crate::played::{Judged, OrderStory, order_story};
 use crate::prefixes::{Prefix, order_of};
 use crate::states::{Join, Nodes};
 use crate::step_text::StepText;
@@ -21,7 +21,7 @@ pub(crate) struct Tree {
     /// The lines of the state before the first move.
     pub opening: Vec<u8>,
     pub nodes: Vec<Node>,
-    pub outcomes: IndexSet<Vec<u8>>,
+    pub outcomes: Vec<Judged>,
     pub steps: IndexSet<StepPlaces>,
     pub texts: IndexSet<Vec<u8>>,
 }
@@ -69,7 +69,7 @@ pub(crate) fn tree_of<'a>(
     let mut tree = Tree {
         opening: opening_of(alloc, given.schedule)?,
         nodes: Vec::new(alloc),
-        outcomes: IndexSet::new(alloc),
+        outcomes: Vec::new(alloc),
         steps: IndexSet::new(alloc),
         texts: IndexSet::new(alloc),
     };
@@ -128,7 +128,7 @@ impl Tree {
         for place in 0..prefixes.len() {
             let done = self.events_of(prefixes[place].parent);
             let played = played_at(alloc, given, moves, form, prefixes, place, done)?;
-            self.add_node(alloc, prefixes[place], &played)?;
+            self.add_node(alloc, prefixes[place], played)?;
         }
         Ok(())
     }
@@ -138,17 +138,22 @@ impl Tree {
         &mut self,
         alloc: Global,
         prefix: Prefix,
-        played: &OrderStory,
+        played: OrderStory,
     ) -> Result<(), NoMemory> {
-        let outcome = self.add_outcome(alloc, &played.outcome)?;
+        let OrderStory {
+            events,
+            story,
+            outcome,
+        } = played;
+        let outcome = self.add_outcome(outcome)?;
         let node = Node {
             parent: prefix.parent,
             who: prefix.who,
-            steps: self.add_steps(alloc, &played.story)?,
+            steps: self.add_steps(alloc, &story)?,
             outcome,
             counts: Vec::new(alloc),
             joins: Vec::new(alloc),
-            events: played.events.len(),
+            events: events.len(),
         };
         self.nodes.push(node)?;
         Ok(())
@@ -201,16 +206,18 @@ impl Tree {
         Ok(place)
     }
 
-    fn add_outcome(
-        &mut self,
-        alloc: Global,
-        outcome: &Option<Vec<u8>>,
-    ) -> Result<Option<usize>, NoMemory> {
-        let Some(text) = outcome else {
+    /// The place of an outcome, which is added where no earlier one is the same.
+    fn add_outcome(&mut self, judged: Option<Judged>) -> Result<Option<usize>, NoMemory> {
+        let Some(judged) = judged else {
             return Ok(None);
         };
-        let text = Vec::from_slice(alloc, text.as_slice())?;
-        let (place, _) = self.outcomes.insert_full(text)?;
+        for (place, known) in self.outcomes.iter().enumerate() {
+            if known.outcome.same(&judged.outcome) {
+                return Ok(Some(place));
+            }
+        }
+        let place = self.outcomes.len();
+        self.outcomes.push(judged)?;
         Ok(Some(place))
     }
 

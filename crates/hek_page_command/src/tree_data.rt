@@ -1,20 +1,111 @@
-//! The data of an explorer's page, as JSON.
+//! The data of an explorer's page, as members of an object of JSON.
 use crate::comments::Comments;
+use crate::data::{put_lines, text_of};
 use crate::heading::{Heading, put_heading};
-use crate::members::{
-    Members, number_value, put_lines, put_number, put_text, put_value, text_of, text_value,
-};
+use crate::played::Judged;
 use crate::states::Join;
 use crate::tree::{Node, StepPlaces, Tree};
 use hek_permute::{Form, Moves};
-use hek_permute_command::Given;
-use hek_report::put;
-use hek_rules::{Event, NoMemory, Schedule, TxnId};
+use hek_permute_command::{Given, put_judged};
+use hek_report::Lines;
+use hek_rules::{Event, Schedule, TxnId};
 use hek_worker::is_work;
 use indexmap::IndexSet;
-use serde_json::{Map, Value};
 use std::alloc::Global;
 use std::io::Write;
+
+/// Puts the data of the page of a tree of orders.
+pub(crate) fn put_tree_data(
+    alloc: Global,
+    given: &Given<'_>,
+    texts: &[String],
+    moves: &[Moves],
+    form: Form,
+    tree: &Tree,
+    heading: &Heading<'_>,
+    comments: &Comments,
+    out: &mut Lines,
+) {
+    out.put_text("kind", "tree");
+    put_heading(alloc, heading, comments, out);
+    put_start(given.schedule, tree, out);
+    put_names(given.schedule, out);
+    put_moves(alloc, given, texts, moves, form, out);
+    put_tree(given.schedule, tree, out);
+}
+
+/// Puts the state before the first move, in which nobody waits.
+fn put_start(schedule: &Schedule, tree: &Tree, out: &mut Lines) {
+    out.put_number("buckets", schedule.buckets());
+    out.put_number("done", 0);
+    put_lines("opening", tree.opening.as_slice(), out);
+    out.put_text("waits", "");
+    out.put_text("asked", "");
+}
+
+/// Puts the names of the transactions.
+fn put_names(schedule: &Schedule, out: &mut Lines) {
+    out.put_key("names");
+    out.begin_array();
+    for place in 0..schedule.txn_count() {
+        out.write_text(schedule.name_of(TxnId::new(place as u64 + 1)));
+    }
+    out.end_array();
+}
+
+/// Puts the moves of each transaction.
+fn put_moves(
+    alloc: Global,
+    given: &Given<'_>,
+    texts: &[String],
+    moves: &[Moves],
+    form: Form,
+    out: &mut Lines,
+) {
+    out.put_key("moves");
+    out.begin_array();
+    for (place, of_one) in moves.iter().enumerate() {
+        let txn = TxnId::new((place as u64).saturating_add(1));
+        write_moves(
+            alloc,
+            given,
+            texts,
+            txn,
+            last_texts(form, of_one.fails()),
+            form,
+            out,
+        );
+    }
+    out.end_array();
+}
+
+/// Writes the moves of one transaction: its reads and writes, and those that end it.
+fn write_moves(
+    alloc: Global,
+    given: &Given<'_>,
+    texts: &[String],
+    txn: TxnId,
+    last: &[&'static str],
+    form: Form,
+    out: &mut Lines,
+) {
+    out.begin_array();
+    if form == Form::Event {
+        out.write_text("begin");
+    }
+    for (place, event) in given.schedule.steps().iter().enumerate() {
+        if is_move(given, txn, place, event) {
+            match texts.get(place) {
+                Some(text) => out.write_text(text.as_str()),
+                None => write_work(alloc, event, out),
+            }
+        }
+    }
+    for text in last {
+        out.write_text(text);
+    }
+    out.end_array();
+}
 
 /// Whether the step at a place is a move of a transaction that isn't its last.
 fn is_move(given: &Given<'_>, txn: TxnId, place: usize, event: &Event) -> bool {
@@ -22,157 +113,19 @@ fn is_move(given: &Given<'_>, txn: TxnId, place: usize, event: &Event) -> bool {
     fails_if || is_work(txn, *event)
 }
 
-/// The step at a place, without the name: its words, if there are some.
-fn step_words(
-    alloc: Global,
-    texts: &[String],
-    place: usize,
-    event: &Event,
-) -> Result<Value, NoMemory> {
-    match texts.get(place) {
-        Some(text) => text_value(alloc, text.as_str()),
-        None => work_value(alloc, event),
+/// Writes a read or a write as a schedule text has it, without the name.
+fn write_work(alloc: Global, event: &Event, out: &mut Lines) {
+    let mut text = Vec::new(alloc);
+    let (word, first, second) = (event.kind().word(), event.first(), event.second());
+    let written = match event.kind().operand_count() {
+        0 => write!(text, "{word}"),
+        1 => write!(text, "{word} {first}"),
+        _ => write!(text, "{word} {first} {second}"),
+    };
+    if written.is_err() {
+        return out.lack_memory();
     }
-}
-
-/// The data of the page of a tree of orders.
-pub(crate) fn tree_data(
-    alloc: Global,
-    given: &Given<'_>,
-    texts: &[String],
-    moves: &[Moves],
-    form: Form,
-    tree: &Tree,
-    heading: &Heading<'_>,
-    comments: &Comments,
-) -> Result<Value, NoMemory> {
-    let mut members = Map::new(alloc);
-    put_text(alloc, "kind", "tree", &mut members)?;
-    put_heading(alloc, heading, comments, &mut members)?;
-    put_start(alloc, given.schedule, tree, &mut members)?;
-    put_moves(alloc, given, texts, moves, form, &mut members)?;
-    put_tree(alloc, tree, &mut members)?;
-    Ok(Value::Object(members))
-}
-
-/// The data of the page of the trees at all levels, from the strictest on.
-pub(crate) fn levels_data(
-    alloc: Global,
-    heading: &Heading<'_>,
-    comments: &Comments,
-    trees: Vec<Value>,
-) -> Result<Value, NoMemory> {
-    let mut members = Map::new(alloc);
-    put_text(alloc, "kind", "levels", &mut members)?;
-    put_heading(alloc, heading, comments, &mut members)?;
-    put_value(alloc, "trees", Value::Array(trees), &mut members)?;
-    Ok(Value::Object(members))
-}
-
-/// Adds the state before the first move, in which nobody waits.
-fn put_start(
-    alloc: Global,
-    schedule: &Schedule,
-    tree: &Tree,
-    members: &mut Members,
-) -> Result<(), NoMemory> {
-    put_number(alloc, "buckets", schedule.buckets(), members)?;
-    put_number(alloc, "done", 0, members)?;
-    put_lines(alloc, "opening", tree.opening.as_slice(), members)?;
-    put_text(alloc, "waits", "", members)?;
-    put_text(alloc, "asked", "", members)
-}
-
-/// Adds the names of the transactions and their moves.
-fn put_moves(
-    alloc: Global,
-    given: &Given<'_>,
-    texts: &[String],
-    moves: &[Moves],
-    form: Form,
-    members: &mut Members,
-) -> Result<(), NoMemory> {
-    let names = name_values(alloc, given.schedule)?;
-    put_value(alloc, "names", names, members)?;
-    let moves = move_values(alloc, given, texts, moves, form)?;
-    put_value(alloc, "moves", moves, members)
-}
-
-/// Adds the nodes and what they name by place.
-fn put_tree(alloc: Global, tree: &Tree, members: &mut Members) -> Result<(), NoMemory> {
-    let outcomes = text_values(alloc, &tree.outcomes)?;
-    put_value(alloc, "outcomes", outcomes, members)?;
-    let texts = text_values(alloc, &tree.texts)?;
-    put_value(alloc, "texts", texts, members)?;
-    let steps = step_values(alloc, &tree.steps)?;
-    put_value(alloc, "steps", steps, members)?;
-    let nodes = node_values(alloc, tree.nodes.as_slice())?;
-    put_value(alloc, "nodes", nodes, members)
-}
-
-fn name_values(alloc: Global, schedule: &Schedule) -> Result<Value, NoMemory> {
-    let mut values = Vec::new(alloc);
-    for place in 0..schedule.txn_count() {
-        let name = schedule.name_of(TxnId::new(place as u64 + 1));
-        values.push(text_value(alloc, name)?)?;
-    }
-    Ok(Value::Array(values))
-}
-
-/// The moves of each transaction.
-fn move_values(
-    alloc: Global,
-    given: &Given<'_>,
-    texts: &[String],
-    moves: &[Moves],
-    form: Form,
-) -> Result<Value, NoMemory> {
-    let mut values = Vec::new(alloc);
-    for (place, of_one) in moves.iter().enumerate() {
-        let txn = TxnId::new((place as u64).saturating_add(1));
-        values.push(moves_of_one(alloc, given, texts, txn, of_one.fails(), form)?)?;
-    }
-    Ok(Value::Array(values))
-}
-
-/// The moves of one transaction: its reads and writes, and how it ends.
-fn moves_of_one(
-    alloc: Global,
-    given: &Given<'_>,
-    texts: &[String],
-    txn: TxnId,
-    fails: bool,
-    form: Form,
-) -> Result<Value, NoMemory> {
-    let mut values = Vec::new(alloc);
-    if form == Form::Event {
-        values.push(text_value(alloc, "begin")?)?;
-    }
-    for (place, event) in given.schedule.steps().iter().enumerate() {
-        if is_move(given, txn, place, event) {
-            values.push(step_words(alloc, texts, place, event)?)?;
-        }
-    }
-    push_last(alloc, form, fails, &mut values)?;
-    Ok(Value::Array(values))
-}
-
-/// Appends the moves that end a transaction.
-fn push_last(
-    alloc: Global,
-    form: Form,
-    fails: bool,
-    values: &mut Vec<Value>,
-) -> Result<(), NoMemory> {
-    for text in last_texts(form, fails) {
-        values.push(text_value(alloc, text)?)?;
-    }
-    Ok(())
-}
-
-fn work_value(alloc: Global, event: &Event) -> Result<Value, NoMemory> {
-    let text = work_text(alloc, event)?;
-    text_value(alloc, text_of(text.as_slice()))
+    out.write_text(text_of(text.as_slice()));
 }
 
 /// The moves that end a transaction.
@@ -187,118 +140,109 @@ fn last_texts(form: Form, fails: bool) -> &'static [&'static str] {
     }
 }
 
-/// A read or a write as a schedule text has it, without the name.
-fn work_text(alloc: Global, event: &Event) -> Result<Vec<u8>, NoMemory> {
-    let mut text = Vec::new(alloc);
-    let kind = event.kind();
-    put(write!(text, "{}", kind.word()))?;
-    if kind.operand_count() > 0 {
-        put(write!(text, " {}", event.first()))?;
+/// Puts the nodes, and what they name by place.
+fn put_tree(schedule: &Schedule, tree: &Tree, out: &mut Lines) {
+    put_outcomes(schedule, tree.outcomes.as_slice(), out);
+    put_texts("texts", &tree.texts, out);
+    out.put_key("steps");
+    out.begin_array();
+    for step in &tree.steps {
+        write_step(step, out);
     }
-    if kind.operand_count() > 1 {
-        put(write!(text, " {}", event.second()))?;
+    out.end_array();
+    out.put_key("nodes");
+    out.begin_array();
+    for node in &tree.nodes {
+        write_node(node, out);
     }
-    Ok(text)
+    out.end_array();
 }
 
-fn text_values(alloc: Global, texts: &IndexSet<Vec<u8>>) -> Result<Value, NoMemory> {
-    let mut values = Vec::new(alloc);
+/// Puts the outcomes, each as `hek permute --json` writes one.
+fn put_outcomes(schedule: &Schedule, outcomes: &[Judged], out: &mut Lines) {
+    out.put_key("outcomes");
+    out.begin_array();
+    for judged in outcomes {
+        out.begin_object();
+        put_judged(schedule, &judged.outcome, judged.breaks, out);
+        out.end_object();
+    }
+    out.end_array();
+}
+
+fn put_texts(name: &str, texts: &IndexSet<Vec<u8>>, out: &mut Lines) {
+    out.put_key(name);
+    out.begin_array();
     for text in texts {
-        values.push(text_value(alloc, text_of(text.as_slice()))?)?;
+        out.write_text(text_of(text.as_slice()));
     }
-    Ok(Value::Array(values))
+    out.end_array();
 }
 
-/// Each step: the text of its event and reply, and the places of its other texts; null for waits that have not changed.
-fn step_values(alloc: Global, steps: &IndexSet<StepPlaces>) -> Result<Value, NoMemory> {
-    let mut values = Vec::new(alloc);
-    for step in steps {
-        values.push(step_value(alloc, step)?)?;
+/// Writes a step: the place of the text of its event and reply, those of its other texts, and that of the waits, if they
+/// have changed.
+fn write_step(step: &StepPlaces, out: &mut Lines) {
+    out.begin_array();
+    for place in [
+        step.line,
+        step.changed,
+        step.gone,
+        step.why,
+        step.sees,
+        step.ends,
+        step.rule,
+        step.sentence,
+        step.definition,
+        step.comes,
+    ] {
+        out.write_number(place as u64);
     }
-    Ok(Value::Array(values))
-}
-
-fn step_value(alloc: Global, step: &StepPlaces) -> Result<Value, NoMemory> {
-    let places = [
-        Some(step.line),
-        Some(step.changed),
-        Some(step.gone),
-        Some(step.why),
-        Some(step.sees),
-        step.waits,
-        Some(step.ends),
-        Some(step.rule),
-        Some(step.sentence),
-        Some(step.definition),
-        Some(step.comes),
-    ];
-    let mut values = Vec::new(alloc);
-    for place in &places {
-        values.push(place_value(alloc, *place)?)?;
+    if let Some(place) = step.waits {
+        out.write_number(place as u64);
     }
-    Ok(Value::Array(values))
+    out.end_array();
 }
 
-fn place_value(alloc: Global, place: Option<usize>) -> Result<Value, NoMemory> {
-    match place {
-        Some(place) => number_value(alloc, place as u64),
-        None => Ok(Value::Null),
+/// Writes a node: its parent's place, the number of the transaction that moves, the places of its steps, a list with the
+/// place of its outcome, if it has one, how many orders lead to each outcome, and the moves that lead to nodes of other
+/// branches, if there are some.
+fn write_node(node: &Node, out: &mut Lines) {
+    out.begin_array();
+    out.write_number(node.parent as u64);
+    out.write_number(node.who.number());
+    write_places(node.steps.as_slice(), out);
+    out.begin_array();
+    if let Some(place) = node.outcome {
+        out.write_number(place as u64);
     }
-}
-
-fn node_values(alloc: Global, nodes: &[Node]) -> Result<Value, NoMemory> {
-    let mut values = Vec::new(alloc);
-    for node in nodes {
-        values.push(node_value(alloc, node)?)?;
+    out.end_array();
+    out.begin_array();
+    for count in &node.counts {
+        out.write_number(*count);
     }
-    Ok(Value::Array(values))
-}
-
-/// A node: its parent's place, the number of the transaction that moves, the places of its steps, the place of its
-/// outcome or null, how many orders lead to each outcome, and the moves that lead to nodes of other branches, if there
-/// are some.
-fn node_value(alloc: Global, node: &Node) -> Result<Value, NoMemory> {
-    let mut values = Vec::new(alloc);
-    push_node(alloc, node, &mut values)?;
-    Ok(Value::Array(values))
-}
-
-fn push_node(alloc: Global, node: &Node, values: &mut Vec<Value>) -> Result<(), NoMemory> {
-    values.push(place_value(alloc, Some(node.parent))?)?;
-    values.push(number_value(alloc, node.who.number())?)?;
-    values.push(places_value(alloc, node.steps.as_slice())?)?;
-    values.push(place_value(alloc, node.outcome)?)?;
-    values.push(counts_value(alloc, node.counts.as_slice())?)?;
+    out.end_array();
     if !node.joins.is_empty() {
-        values.push(joins_value(alloc, node.joins.as_slice())?)?;
+        write_joins(node.joins.as_slice(), out);
     }
-    Ok(())
+    out.end_array();
 }
 
-/// Moves that lead to nodes of other branches: the number of the transaction, and the place of the node.
-fn joins_value(alloc: Global, joins: &[Join]) -> Result<Value, NoMemory> {
-    let mut values = Vec::new(alloc);
-    for join in joins {
-        let mut pair = Vec::new(alloc);
-        pair.push(number_value(alloc, join.who.number())?)?;
-        pair.push(number_value(alloc, join.to as u64)?)?;
-        values.push(Value::Array(pair))?;
-    }
-    Ok(Value::Array(values))
-}
-
-fn places_value(alloc: Global, places: &[usize]) -> Result<Value, NoMemory> {
-    let mut values = Vec::new(alloc);
+fn write_places(places: &[usize], out: &mut Lines) {
+    out.begin_array();
     for place in places {
-        values.push(place_value(alloc, Some(*place))?)?;
+        out.write_number(*place as u64);
     }
-    Ok(Value::Array(values))
+    out.end_array();
 }
 
-fn counts_value(alloc: Global, counts: &[u64]) -> Result<Value, NoMemory> {
-    let mut values = Vec::new(alloc);
-    for count in counts {
-        values.push(number_value(alloc, *count)?)?;
+/// Writes moves that lead to nodes of other branches: the number of the transaction, and the place of the node.
+fn write_joins(joins: &[Join], out: &mut Lines) {
+    out.begin_array();
+    for join in joins {
+        out.begin_array();
+        out.write_number(join.who.number());
+        out.write_number(join.to as u64);
+        out.end_array();
     }
-    Ok(Value::Array(values))
+    out.end_array();
 }

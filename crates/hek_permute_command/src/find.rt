@@ -49,12 +49,12 @@ pub(crate) struct Found {
     pub(crate) breaks: Option<u64>,
 }
 
-/// The verdict that a text asks for: as it is printed, or `another order` for short.
+/// The verdict that a text asks for, as it is printed.
 fn verdict_named(text: &str) -> Option<Serializability> {
     match text {
-        "serial" => Some(Serializability::ByEndTime),
-        "serial in another order" | "another order" => Some(Serializability::InAnotherOrder),
-        "not serial" => Some(Serializability::NotSerial),
+        "serializable" => Some(Serializability::ByEndTime),
+        "serializable in another order" => Some(Serializability::InAnotherOrder),
+        "not serializable" => Some(Serializability::NotSerial),
         _ => None,
     }
 }

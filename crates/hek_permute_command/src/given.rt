@@ -51,11 +51,7 @@ impl<'p> Given<'p> {
     }
 
     /// The line of the first invariant that an outcome breaks.
-    pub(crate) fn broken_by(
-        &self,
-        alloc: Global,
-        outcome: &Outcome,
-    ) -> Result<Option<u64>, NoMemory> {
+    pub fn broken_by(&self, alloc: Global, outcome: &Outcome) -> Result<Option<u64>, NoMemory> {
         if self.program.always().is_empty() {
             return Ok(None);
         }

@@ -18,10 +18,11 @@ fn put_outcome(schedule: &Schedule, outcome: &Outcome, out: &mut Lines) {
     out.put_rows(outcome.rows().items());
 }
 
-/// How each transaction ended, the rows and the word of the verdict.
-fn put_judged(schedule: &Schedule, outcome: &Outcome, out: &mut Lines) {
+/// How each transaction ended, the rows, the word of the verdict, and the line of the first invariant that the outcome breaks.
+pub fn put_judged(schedule: &Schedule, outcome: &Outcome, breaks: Option<u64>, out: &mut Lines) {
     put_outcome(schedule, outcome, out);
     put_verdict(outcome.verdict(), out);
+    put_broken(breaks, out);
 }
 
 /// How each transaction ended, by ID.
@@ -74,24 +75,18 @@ fn put_row(
     out.put_number("orders", row.orders());
     put_outcome(given.schedule, row.outcome(), out);
     put_members(given.schedule, details, out);
-    put_broken(alloc, given, row.outcome(), out)?;
+    put_broken(given.broken_by(alloc, row.outcome())?, out);
     out.put_number("waited", row.waited());
     out.put_names("first", given.schedule, row.first());
     out.end_line();
     Ok(())
 }
 
-/// The line of the first invariant that an outcome breaks.
-fn put_broken(
-    alloc: Global,
-    given: &Given<'_>,
-    outcome: &Outcome,
-    out: &mut Lines,
-) -> Result<(), NoMemory> {
-    if let Some(line) = given.broken_by(alloc, outcome)? {
+/// The line of the first invariant that an outcome breaks, if there is one.
+fn put_broken(breaks: Option<u64>, out: &mut Lines) {
+    if let Some(line) = breaks {
         out.put_number("breaks", line);
     }
-    Ok(())
 }
 
 /// The line of an order with its outcome.
@@ -104,8 +99,12 @@ pub(crate) fn put_order(
 ) -> Result<(), NoMemory> {
     out.begin_line();
     out.put_names("order", given.schedule, order);
-    put_judged(given.schedule, outcome, out);
-    put_broken(alloc, given, outcome, out)?;
+    put_judged(
+        given.schedule,
+        outcome,
+        given.broken_by(alloc, outcome)?,
+        out,
+    );
     out.put_flag("waited", outcome.waited());
     out.end_line();
     Ok(())
@@ -144,8 +143,12 @@ fn put_leveled(
         out.put_number((*level).word(), count_of(tally, outcome));
     }
     out.end_object();
-    put_judged(given.schedule, outcome, out);
-    put_broken(alloc, given, outcome, out)?;
+    put_judged(
+        given.schedule,
+        outcome,
+        given.broken_by(alloc, outcome)?,
+        out,
+    );
     put_firsts(given.schedule, tallies, outcome, out);
     out.end_line();
     Ok(())

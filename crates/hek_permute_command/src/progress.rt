@@ -21,7 +21,8 @@ pub struct Census {
     pub plays: u64,
 }
 
-/// Counts orders and states, and rewrites a line of a terminal at each `PACE` plays.
+/// Counts orders and states, and writes a line without an end at each `PACE` plays: what comes after its flush stands in its
+/// place.
 #[derive(Drop)]
 pub struct Progress<'e, E: Write> {
     terminal: &'e mut E,
@@ -62,7 +63,7 @@ impl<'e, E: Write> Progress<'e, E> {
         if self.shows && self.done % PACE == 0 {
             let done = self.done;
             let most = self.most.unwrap_or(done);
-            let _ = write!(self.terminal, "\rhek: permute: {done} of {most} orders");
+            let _ = write!(self.terminal, "hek: permute: {done} of {most} orders");
             let _ = self.terminal.flush();
         }
     }
@@ -72,7 +73,7 @@ impl<'e, E: Write> Progress<'e, E> {
         self.done = self.done.saturating_add(1);
         if self.shows && self.done % PACE == 0 {
             let done = self.done;
-            let _ = write!(self.terminal, "\rhek: permute: {done} beginnings of orders");
+            let _ = write!(self.terminal, "hek: permute: {done} beginnings of orders");
             let _ = self.terminal.flush();
         }
     }
@@ -91,7 +92,7 @@ impl<'e, E: Write> Progress<'e, E> {
             let next = played.saturating_add(1);
             let _ = write!(
                 self.terminal,
-                "\rhek: permute: move {next} of {moves}, {states} states"
+                "hek: permute: move {next} of {moves}, {states} states"
             );
             let _ = self.terminal.flush();
         }
@@ -116,10 +117,9 @@ impl<'e, E: Write> Progress<'e, E> {
         );
     }
 
-    /// Clears the line, if there is one.
+    /// Ends the line, if there is one: nothing is to stand in its place.
     pub fn clear(&mut self) {
         if self.shows && self.done >= PACE {
-            let _ = write!(self.terminal, "\r\x1b[K");
             let _ = self.terminal.flush();
         }
     }

@@ -15,11 +15,7 @@ use std::alloc::Global;
 use std::io::Write;
 
 /// Appends an outcome: how each transaction ended, the rows and the verdict, as a line of `hek permute` has them.
-pub fn put_outcome(
-    schedule: &Schedule,
-    outcome: &Outcome,
-    text: &mut Vec<u8>,
-) -> Result<(), NoMemory> {
+fn put_outcome(schedule: &Schedule, outcome: &Outcome, text: &mut Vec<u8>) -> Result<(), NoMemory> {
     for (place, end) in outcome.ends().iter().enumerate() {
         put_name(schedule, TxnId::new((place as u64).saturating_add(1)), text)?;
         text.push(b' ')?;
@@ -81,7 +77,7 @@ pub(crate) fn put_order(
 }
 
 /// An outcome, and the line of the first invariant that it breaks.
-pub fn put_judged(
+fn put_judged(
     alloc: Global,
     given: &Given<'_>,
     outcome: &Outcome,

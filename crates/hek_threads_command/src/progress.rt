@@ -4,7 +4,7 @@ use std::io::Write;
 /// After how many runs the line is written anew: some times a second.
 const PACE: u64 = 1_024;
 
-/// Counts runs, and rewrites a line of a terminal at each `PACE` of them.
+/// Counts runs, and writes a line without an end at each `PACE` of them: what comes after its flush stands in its place.
 #[derive(Drop)]
 pub struct Progress<'e, E: Write> {
     terminal: &'e mut E,
@@ -29,15 +29,14 @@ impl<'e, E: Write> Progress<'e, E> {
         self.done = self.done.saturating_add(1);
         if self.shows && self.done % PACE == 0 {
             let (done, most) = (self.done, self.most);
-            let _ = write!(self.terminal, "\rhek: threads: {done} of {most} runs");
+            let _ = write!(self.terminal, "hek: threads: {done} of {most} runs");
             let _ = self.terminal.flush();
         }
     }
 
-    /// Clears the line, if there is one.
+    /// Ends the line, if there is one: nothing is to stand in its place.
     pub fn clear(&mut self) {
         if self.shows && self.done >= PACE {
-            let _ = write!(self.terminal, "\r\x1b[K");
             let _ = self.terminal.flush();
         }
     }

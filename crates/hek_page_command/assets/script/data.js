@@ -2,7 +2,7 @@
 
 /* ================================================================ the data */
 
-const sheet = JSON.parse(document.getElementById("data").textContent);
+const sheet = Story.text.parse(document.getElementById("data").textContent);
 /** What is shown: the sheet, or of one with all levels the tree of one of them. */
 let data = sheet.kind === "levels" ? sheet.trees[0] : sheet;
 const $ = (id) => document.getElementById(id);

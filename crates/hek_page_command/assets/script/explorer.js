@@ -40,26 +40,30 @@ function eventsOfMove(shown) {
 const total = (counts) => counts.reduce((sum, it) => sum + it, 0);
 const isWhole = () => tree.nodes[tree.path.at(-1)].next.length === 0;
 
-/** The parts of an outcome: its ends and rows, and the verdict, to which the line of an invariant belongs that it breaks. */
-function outcomeParts(text) {
-  const parts = text.split("; ");
-  const breaks = /^breaks /.test(parts.at(-1)) ? `; ${parts.pop()}` : "";
-  const verdict = parts.pop() + breaks;
-  return { parts, verdict, isGood: !breaks && verdict !== "not serial" };
-}
+/** The rows at the end of an outcome. */
+const rowsAtEnd = ({ rows }) => rows.map(([key, value]) => `${key}=${value}`).join(" ");
 
-/** A verdict of an outcome's text in the words of a story. */
-const verdictSaid = (verdict) => verdict.replace(/\bserial\b/, "serializable");
+/** The ends and the rows of an outcome, as `hek permute` words them. */
+const endsAndRows = (outcome) => [...outcome.ends.map(({ txn, end }) => `${txn} ${end}`), `rows ${rowsAtEnd(outcome)}`.trim()].join("; ");
 
-/** An outcome in few words: of more than two transactions those that don't commit. */
-function outcomeOf(text) {
-  const { parts, verdict } = outcomeParts(text);
-  const txns = parts.filter((it) => /(committed|aborted|unended)/.test(it) && !/^rows/.test(it)).map((it) => it.split(" "));
-  const rows = parts.find((it) => it.startsWith("rows")) ?? "";
-  const telling = txns.length > 2 ? txns.filter(([, state]) => state !== "committed") : txns;
-  const endOf = (state, cause) => (state === "committed" ? "commits" : state === "unended" ? "goes on" : `aborts (${cause})`);
-  const said = telling.map(([name, state, cause]) => `${tagName(name)} ${endOf(state, cause)}`).join(", ") || "all commit";
-  return `${said}<span class="soft"> \u00b7 ${esc(rows.replace("rows ", ""))}${verdict === "serial" ? "" : ` \u00b7 <b>${esc(verdictSaid(verdict))}</b>`}</span>`;
+/** The verdict of an outcome, and the line of the first invariant that it breaks. */
+const verdictOf = ({ verdict, breaks }) => verdict + (breaks === undefined ? "" : `; breaks line ${breaks}`);
+
+/** An outcome whole, as a line of `hek permute` has it. */
+const outcomeText = (outcome) => `${endsAndRows(outcome)}; ${verdictOf(outcome)}`;
+
+/** Whether an outcome is serializable, and breaks no invariant. */
+const isGood = ({ verdict, breaks }) => breaks === undefined && verdictKind(verdict) !== "not";
+
+/** How a transaction ends, in a sentence. */
+const endSaid = (end) => (end === "committed" ? "commits" : end === "unended" ? "goes on" : `aborts (${end.replace("aborted ", "")})`);
+
+/** An outcome in few words: of more than two transactions those that don't commit. A verdict that is serializable by end time isn't said. */
+function outcomeOf(outcome) {
+  const { ends, verdict, breaks } = outcome, isPlain = breaks === undefined && verdictKind(verdict) === "serial";
+  const telling = ends.length > 2 ? ends.filter(({ end }) => end !== "committed") : ends;
+  const said = telling.map(({ txn, end }) => `${tagName(txn)} ${endSaid(end)}`).join(", ") || "all commit";
+  return `${said}<span class="soft"> \u00b7 ${esc(rowsAtEnd(outcome))}${isPlain ? "" : ` \u00b7 <b>${esc(verdictOf(outcome))}</b>`}</span>`;
 }
 
 const letterOf = (outcome) => "ABCDEFGHIJKLMNOPQRSTUVWXYZ"[outcome] ?? String(outcome);
@@ -147,7 +151,7 @@ function showTree() {
     const idle = (joins ? hasEnded(tree.names[who]) : it.steps.length === 0) ? ' <span class="soft">(has aborted)</span>' : "";
     return `<button type="button" class="choice${isTaken ? " taken" : ""}" data-next="${next}"${joins ? ` title="${esc(joinSaid(next))}"` : ""}><kbd>${who + 1}</kbd> <span>${joins ? `${JOINS} ` : ""}${(isCrowd ? shortTag : tagName)(tree.names[who])} <b>${esc(move)}</b>${idle}</span>${outcomeBar(it.counts)}<span class="count">${isSecret ? "" : countsSaid(it.counts, room)}</span></button>`;
   }).join("");
-  const found = whole && isAt ? `<p class="whose">This order is complete.</p><p class="final">${outcomeOf(data.outcomes[node.outcome])}</p><p>All together: <b>${esc(verdictSaid(outcomeParts(data.outcomes[node.outcome]).verdict))}</b>. ${reachSaid(node)}</p>` : "";
+  const found = whole && isAt ? `<p class="whose">This order is complete.</p><p class="final">${outcomeOf(data.outcomes[node.outcome])}</p><p>All together: <b>${esc(verdictOf(data.outcomes[node.outcome]))}</b>. ${reachSaid(node)}</p>` : "";
   const inside = isAt ? "" : `<p class="whose">In the middle of a move</p><p>\u2192 goes on with it.</p>`;
   $("because").innerHTML = `<div class="moves">${found || inside || `<p class="whose">Who moves next?</p><div class="pick${tree.isMerged ? " merged" : ""}${isCrowd ? " crowd" : ""}" style="--n:${isCrowd ? Math.ceil(ways / 2) : Math.min(ways, 3)}">${choices}</div>`}</div>`;
   // the outcomes that can still be reached
@@ -156,8 +160,8 @@ function showTree() {
     if (isSecret) $("words-title").textContent = "Outcomes: what do you think?";
     const shown = isSecret ? [] : outcomesShown(node.counts);
     const rows = shown.map((at) => {
-      const [text, count] = [data.outcomes[at], node.counts[at]];
-      return `<li class="${count ? "" : "out"}"><span class="n">${count}</span><span class="swatch o${at % 6}"></span><b>${letterOf(at)}</b><span class="what">${outcomeOf(text)}</span><button type="button" data-find="${at}"${count ? "" : " disabled"}>find one</button><span class="rail"><i class="o${at % 6}" style="width:${f1((100 * count) / Math.max(reach, 1))}%"></i></span></li>`;
+      const count = node.counts[at];
+      return `<li class="${count ? "" : "out"}"><span class="n">${count}</span><span class="swatch o${at % 6}"></span><b>${letterOf(at)}</b><span class="what">${outcomeOf(data.outcomes[at])}</span><button type="button" data-find="${at}"${count ? "" : " disabled"}>find one</button><span class="rail"><i class="o${at % 6}" style="width:${f1((100 * count) / Math.max(reach, 1))}%"></i></span></li>`;
     });
     const left = isSecret ? 0 : data.outcomes.length - shown.length;
     const digits = Math.max(...shown.map((at) => String(tree.nodes[0].counts[at]).length));

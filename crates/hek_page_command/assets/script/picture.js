@@ -164,10 +164,7 @@ const firstOrder = (outcome) => movesOn(tree, 0, outcome).order.join(" ");
 
 function outcomesInPrint() {
   const counts = tree.nodes[0].counts;
-  const rows = data.outcomes.map((text, at) => {
-    const { parts, verdict } = outcomeParts(text);
-    return `<tr><td>${letterOf(at)}</td><td>${counts[at]}</td><td>${parts.map(esc).join("; ")}</td><td><b>${esc(verdict)}</b></td><td>${esc(firstOrder(at))}</td></tr>`;
-  });
+  const rows = data.outcomes.map((outcome, at) => `<tr><td>${letterOf(at)}</td><td>${counts[at]}</td><td>${esc(endsAndRows(outcome))}</td><td><b>${esc(verdictOf(outcome))}</b></td><td>${esc(firstOrder(at))}</td></tr>`);
   return `<caption>${esc(data.title)}. ${esc(data.about ?? "")} ${total(counts)} orders of the moves.</caption><thead><tr><th></th><th>orders</th><th>ends and rows</th><th>verdict</th><th>the first of these orders</th></tr></thead><tbody>${rows.join("")}</tbody>`;
 }
 

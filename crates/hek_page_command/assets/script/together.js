@@ -1,19 +1,21 @@
 /* ---- who comes before whom */
 
-/** What is said of the committed transactions together, at the end of a run that isn't serial by end time. */
+const { verdictKind } = Story.story;
+
+/** What is said of the committed transactions together, at the end of a run that isn't serializable by end time. */
 function togetherHere() {
   const told = isTree || here !== run.last ? null : data.together;
-  return told && told.verdict !== "serial" ? told : null;
+  return told && verdictKind(told.verdict) !== "serial" ? told : null;
 }
 
 /** Whether the committed transactions can follow one another, with the order or with who comes before whom. */
 function togetherSaid(byEnd) {
   const told = data.together;
-  switch (told.verdict) {
+  switch (verdictKind(told.verdict)) {
     case "serial": return `<b>yes</b>${byEnd ? `, by end time: ${byEnd}` : ""}`;
-    case "another order": return `<b>yes</b>, in another order: ${told.order.map(tagName).join(", then ")}${byEnd ? ` (by end time: ${byEnd})` : ""}`;
-    case "not serial": return `<b>no</b>: ${told.cycle.length > 1 ? told.cycle.map(beforeSaid).join(", ") : esc(told.cycle[0]?.words ?? "no order")}`;
-    default: return "not by end time; whether in another order is unknown";
+    case "other": return `<b>yes</b>, in another order: ${told.order.map(tagName).join(", then ")}${byEnd ? ` (by end time: ${byEnd})` : ""}`;
+    case "not": return `<b>no</b>: ${told.cycle.length > 1 ? told.cycle.map(beforeSaid).join(", ") : esc(told.cycle[0]?.words ?? "no order")}`;
+    default: return "not serializable by end time; whether in another order is unknown";
   }
 }
 

@@ -12,11 +12,11 @@ const askedTo = (place) => [...(asked ?? []), ...namesOf(tree, tree.path).slice(
     is the first order that comes to it, and its steps are those of that order. */
 function treeOf(data) {
   const text = (at) => data.texts[at];
-  const steps = data.steps.map(([line, changed, gone, why, sees, waits, ends, rule, sentence, definition, comes]) => ({
-    line: text(line), changed: text(changed), gone: text(gone), why: text(why), sees: text(sees), waits: waits === null ? null : text(waits), ends: text(ends), rule: text(rule),
+  const steps = data.steps.map(([line, changed, gone, why, sees, ends, rule, sentence, definition, comes, waits]) => ({
+    line: text(line), changed: text(changed), gone: text(gone), why: text(why), sees: text(sees), waits: waits === undefined ? null : text(waits), ends: text(ends), rule: text(rule),
     sentence: text(sentence), definition: text(definition), comes: text(comes),
   }));
-  const nodes = data.nodes.map(([parent, who, places, outcome, counts, joins = []], index) => ({ index, parent, who: who - 1, steps: places.map((at) => steps[at]), outcome, next: [], counts, joins, own: new Set() }));
+  const nodes = data.nodes.map(([parent, who, places, [outcome = null], counts, joins = []], index) => ({ index, parent, who: who - 1, steps: places.map((at) => steps[at]), outcome, next: [], counts, joins, own: new Set() }));
   for (const node of nodes.slice(1)) nodes[node.parent].next[node.who] = node.index;
   for (const node of nodes) for (const [who, joined] of node.joins) node.next[who - 1] = joined;
   // the outcomes to which moves lead from a node without a join

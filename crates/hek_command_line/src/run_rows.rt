@@ -1,10 +1,10 @@
 //! The words of the commands that run a schedule.
-use crate::texts::{
-    ALWAYS_AUTO, AUTO, ArgumentText, CHANGES, COLOR, CommandText, EXPLAIN, FILE, Form, IMAGE, JSON,
-    LEVEL, TEXT, WHY,
+use crate::rows::{
+    ALWAYS_AUTO, ANY, AUTO, Asks, CHANGES, COLOR, EXPLAIN, FILE, Form, IMAGE, JSON, LEVEL, MILLION,
+    Others, Row, TEXT, Times, Value, WHY, given,
 };
 
-pub(crate) const RUN: CommandText = CommandText {
+const RUN: &Row = &Row {
     name: "run",
     about: "Runs the steps of a schedule, and prints each with its reply",
     example: r"Example:
@@ -25,35 +25,29 @@ it prints
         IMAGE,
         EXPLAIN,
         COLOR,
-        ArgumentText {
-            name: "state",
-            help: "prints the state of the machine after the trace",
-            form: Form::Flag,
-        },
-        ArgumentText {
-            name: "state-at",
-            help: "stops after N steps, and prints the state there",
-            form: Form::Number,
-        },
+        given!("state" => Form::Flag, "prints the state of the machine after the trace"),
+        given!("state-at" => Form::Valued("N", Value::Number("a number of steps", 0, ANY)), "stops after N steps, and prints the state there"),
         WHY,
         CHANGES,
-        ArgumentText {
-            name: "history",
-            help: "prints the run as a log for hek history, in place of its trace",
-            form: Form::Flag,
-        },
-        ArgumentText {
-            name: "moves",
-            help: "prints the run as its transactions see it, in place of its trace: a line for each read, write, wait and end; with --why its reason",
-            form: Form::Flag,
-        },
+        given!("history" => Form::Flag, "prints the run as a log for hek history, in place of its trace"),
+        given!("moves" => Form::Flag, "prints the run as its transactions see it, in place of its trace: a line for each read, write, wait and end; with --why its reason"),
         AUTO,
         LEVEL,
         JSON,
     ],
+    rivals: &[
+        Others("history", &["state", "state-at", "why", "changes", "json"]),
+        Others("moves", &["state", "state-at", "changes", "history"]),
+    ],
+    needs: &[],
+    asks: Asks::Never,
 };
 
-pub(crate) const DEBUG: CommandText = CommandText {
+pub fn run_row() -> &'static Row {
+    RUN
+}
+
+const DEBUG: &Row = &Row {
     name: "debug",
     about: "Runs a schedule step by step, to breakpoints and watches, and back",
     example: r"Commands, one a line:
@@ -87,11 +81,7 @@ are answered with
   1 end 0 807FFFFFFFFFFFFF",
     arguments: &[
         FILE,
-        ArgumentText {
-            name: "COMMANDS",
-            help: "a text of these commands; - is standard input, where they are those of a session",
-            form: Form::MaybeWord,
-        },
+        given!("COMMANDS" => Form::Placed(Times::Maybe, Value::File), "a text of these commands; - is standard input, where they are those of a session"),
         TEXT,
         IMAGE,
         EXPLAIN,
@@ -99,9 +89,16 @@ are answered with
         AUTO,
         LEVEL,
     ],
+    rivals: &[],
+    needs: &[],
+    asks: Asks::Never,
 };
 
-pub(crate) const DRIVE: CommandText = CommandText {
+pub fn debug_row() -> &'static Row {
+    DEBUG
+}
+
+const DRIVE: &Row = &Row {
     name: "drive",
     about: "Runs events as they are typed, one a line, and answers each at once",
     example: r"Each line is an event, written as a step of a schedule: `a read 10`. The rows and transactions are those of FILE; its own steps are not run. A line that is not an event is answered with `? line 2: 2 BadWord`, and changes nothing.
@@ -126,23 +123,22 @@ are answered with
         COLOR,
         WHY,
         CHANGES,
-        ArgumentText {
-            name: "state",
-            help: "prints the state of the machine after each answer",
-            form: Form::Flag,
-        },
-        ArgumentText {
-            name: "ends",
-            help: "ends what is printed for each line with an empty line",
-            form: Form::Flag,
-        },
+        given!("state" => Form::Flag, "prints the state of the machine after each answer"),
+        given!("ends" => Form::Flag, "ends what is printed for each line with an empty line"),
         ALWAYS_AUTO,
         LEVEL,
         JSON,
     ],
+    rivals: &[],
+    needs: &[],
+    asks: Asks::Never,
 };
 
-pub(crate) const THREADS: CommandText = CommandText {
+pub fn drive_row() -> &'static Row {
+    DRIVE
+}
+
+const THREADS: &Row = &Row {
     name: "threads",
     about: "Runs each transaction of a schedule in its own thread, and prints the history",
     example: r"Example:
@@ -158,23 +154,18 @@ it prints the trace of a whole run of a, from begin to end. What it prints is a 
         TEXT,
         IMAGE,
         EXPLAIN,
-        ArgumentText {
-            name: "turns",
-            help: "how many times a waiting transaction tries again, 0 to 1000000",
-            form: Form::NeededNumber,
-        },
-        ArgumentText {
-            name: "repeat",
-            help: "runs N times, 1 to 1000000, and prints the outcomes",
-            form: Form::Number,
-        },
-        ArgumentText {
-            name: "seed",
-            help: "draws by this number whose turn it is, so that a run can be repeated",
-            form: Form::Number,
-        },
+        given!("turns" => Form::Needed("N", Value::Number("a number of turns", 0, MILLION)), "how many times a waiting transaction tries again, 0 to 1000000"),
+        given!("repeat" => Form::Valued("N", Value::Number("a number of runs", 1, MILLION)), "runs N times, 1 to 1000000, and prints the outcomes"),
+        given!("seed" => Form::Valued("N", Value::Number("a number", 0, ANY)), "draws by this number whose turn it is, so that a run can be repeated"),
         ALWAYS_AUTO,
         LEVEL,
         JSON,
     ],
+    rivals: &[],
+    needs: &[],
+    asks: Asks::Never,
 };
+
+pub fn threads_row() -> &'static Row {
+    THREADS
+}
