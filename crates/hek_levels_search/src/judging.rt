@@ -489,13 +489,8 @@ fn by_widths(
     Ok(Verdict::Unknown(NOWHERE))
 }
 
-/// A verdict by searches that assume something; where none has one, the verdict so far.
-fn by_assumption(
-    question: Question<'_>,
-    listed: &mut Listed,
-    verdict: Verdict,
-) -> Result<Verdict, NoMemory>
-    requires { IsVerdict question.asked.now question.log.now verdict }
+/// A verdict by searches that assume something.
+fn by_assumption(question: Question<'_>, listed: &mut Listed) -> Result<Verdict, NoMemory>
     ensures { IfOk result (λ verdict. IsVerdict question.entry.asked.now question.entry.log.now verdict) }
 {
     let found = by_turns(question, listed)?;
@@ -508,7 +503,7 @@ fn by_assumption(
             return Ok(found);
         }
     }
-    Ok(verdict)
+    Ok(Verdict::Unknown(NOWHERE))
 }
 
 /// The points of an order from the front as a verdict, by the first guess or with the turns of another.
@@ -582,5 +577,10 @@ pub fn judge(
     if is_known(&found) {
         return Ok(found);
     }
-    by_assumption(question, &mut listed, found)
+    let assumed = by_assumption(question, &mut listed)?;
+    if is_known(&assumed) {
+        return Ok(assumed);
+    }
+    // how far the search came that assumes nothing
+    Ok(found)
 }
