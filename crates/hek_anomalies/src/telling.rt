@@ -86,10 +86,10 @@ fn list_few(log: &Log, listed: &mut Vec<Absence>) -> Result<(), NoMemory> {
 }
 
 /// Adds the anomalies that answers show: first where each may be of all who may have committed, then as if none had that no read needs.
-fn show_all(
+fn show_all<'a>(
     alloc: Global,
-    telling: Telling<'_>,
-    problem: &Problem<'_>,
+    telling: Telling<'a>,
+    problem: &'a Problem<'a>,
     all: bool,
     causes: &mut Vec<Cause>,
 ) -> Result<(), NoMemory> {
