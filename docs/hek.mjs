@@ -15,6 +15,8 @@ function element(id) {
   return page.slice(at + mark.length, page.indexOf("</script>", at));
 }
 
+// ---- what Node gives a machine: files, streams, terminals. tools/web puts this part into bin/hek.mjs too
+
 // The error numbers of Linux, by their names; any other is EIO.
 const ERRORS = {EPERM: 1, ENOENT: 2, EIO: 5, EBADF: 9, ENOMEM: 12, EACCES: 13, EEXIST: 17, ENOTDIR: 20, EISDIR: 21, EINVAL: 22, EMFILE: 24,
   ENOSPC: 28, EROFS: 30, EPIPE: 32, ENAMETOOLONG: 36, ELOOP: 40};
@@ -44,6 +46,8 @@ const system = {
   close: fd => answer(() => fs.closeSync(fd) ?? 0),
   isTerminal: fd => tty.isatty(fd),
 };
+
+// ---- the machine of the page
 
 // What the page's worker begins with; that it waits for messages is for the page alone.
 const {runHek, isAble} = new Function(`let onmessage;\n${element("worker")}\nreturn {runHek, isAble};`)();

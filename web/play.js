@@ -270,6 +270,12 @@ function listen() {
   });
   document.addEventListener("keydown", pageKey);
   addEventListener("resize", () => draw());
+  // Where the page begins to scroll, its pictures have less room, and are drawn anew.
+  let room = 0;
+  new ResizeObserver(([{contentRect: {width}}]) => {
+    if (width > 0 && width < room) draw();
+    room = width || room;
+  }).observe($("st-cards"));
   addEventListener("beforeprint", printed);
   addEventListener("popstate", goToAddress);
   addEventListener("hashchange", () => { if (location.hash !== address()) goToAddress(); });
