@@ -6,6 +6,7 @@ use crate::certificate::Making;
 use crate::front::points_from_front;
 use crate::guessed::points_by_guess;
 use crate::known::Known;
+use crate::listing::{Listed, are_few, list, list_all_of};
 use crate::lists::{add, at};
 use crate::problem::{Absence, Problem, reduced};
 use crate::replay::Replay;
@@ -15,7 +16,6 @@ use crate::steps::steps_of;
 use hek_history::Point;
 use hek_levels::{
     Asked, Certificate, Log, Turn, explains, explains_by_points, is_committed, is_possible,
-    scans_of,
 };
 use hek_levels_refutation::{Step, refutes};
 use hek_rules::NoMemory;
@@ -80,12 +80,6 @@ pub enum Verdict {
     Unknown(Progress),
 }
 
-/// How many keys all scans miss together, at most, where each of them is a reading from the start.
-const MOST_ABSENCES: usize = 400_000;
-
-/// How many keys that scans miss are looked at together, at most.
-const MOST_LISTED: usize = 2_000_000;
-
 /// How often keys that scans miss are added, and at most how many of a scan at first.
 const ROUNDS: usize = 24;
 
@@ -106,9 +100,6 @@ struct Question<'a> {
     guesses: &'a [Guess],
     effort: usize,
 }
-
-/// The keys that scans miss of which there are readings.
-type Listed = Vec<Absence>;
 
 /// Points as a verdict, if they are an explanation.
 fn judge_points(
@@ -188,56 +179,6 @@ fn turns_of<'a>(guesses: &'a [Guess], place: usize) -> &'a [Turn] {
         Some(guess) => guess.turns.as_slice(),
         None => &[],
     }
-}
-
-/// More keys that scans miss are readings. Answers whether there is room for them, and they are new.
-fn list(listed: &mut Listed, missed: &[Absence]) -> Result<bool, NoMemory> {
-    let before = listed.len();
-    if before.saturating_add(missed.len()) > MOST_LISTED {
-        return Ok(false);
-    }
-    listed.extend_from_slice(missed)?;
-    listed.sort_unstable();
-    listed.dedup();
-    Ok(listed.len() != before)
-}
-
-/// All keys that the scans of a transaction miss are readings.
-fn list_all_of(
-    log: &Log,
-    problem: &Problem,
-    t: usize,
-    listed: &mut Listed,
-) -> Result<(), NoMemory> {
-    for (place, scan) in scans_of(log, t).iter().enumerate() {
-        let (from, to) = problem.keys.places_of(scan.scope);
-        for there in from..to {
-            let key = problem.keys.name(problem.keys.key_at(scan.scope, there));
-            if scan.except.binary_search(&key).is_err() {
-                add(
-                    listed,
-                    Absence {
-                        transaction: t,
-                        scan: place,
-                        key,
-                    },
-                )?;
-            }
-        }
-    }
-    Ok(())
-}
-
-/// Whether all keys that scans miss are few together.
-fn are_few(log: &Log, problem: &Problem) -> bool {
-    let mut count: usize = 0;
-    for t in 0..problem.transactions() {
-        for scan in scans_of(log, t) {
-            let (from, to) = problem.keys.places_of(scan.scope);
-            count = count.saturating_add(to.saturating_sub(from));
-        }
-    }
-    count <= MOST_ABSENCES
 }
 
 /// Turns that say that each transaction takes place within so many places after its own by a guess.
