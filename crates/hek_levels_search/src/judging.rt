@@ -6,6 +6,7 @@ use crate::certificate::Making;
 use crate::front::points_from_front;
 use crate::guessed::points_by_guess;
 use crate::known::Known;
+use crate::listing::{Listed, are_few, list, list_all_of};
 use crate::lists::{add, at};
 use crate::problem::{Absence, Problem, reduced};
 use crate::replay::Replay;
@@ -15,7 +16,6 @@ use crate::steps::steps_of;
 use hek_history::Point;
 use hek_levels::{
     Asked, Certificate, Log, Turn, explains, explains_by_points, is_committed, is_possible,
-    scans_of,
 };
 use hek_levels_refutation::{Step, refutes};
 use hek_rules::NoMemory;
@@ -80,12 +80,6 @@ pub enum Verdict {
     Unknown(Progress),
 }
 
-/// How many keys all scans miss together, at most, where each of them is a reading from the start.
-const MOST_ABSENCES: usize = 400_000;
-
-/// How many keys that scans miss are looked at together, at most.
-const MOST_LISTED: usize = 2_000_000;
-
 /// How often keys that scans miss are added, and at most how many of a scan at first.
 const ROUNDS: usize = 24;
 
@@ -106,9 +100,6 @@ struct Question<'a> {
     guesses: &'a [Guess],
     effort: usize,
 }
-
-/// The keys that scans miss of which there are readings.
-type Listed = Vec<Absence>;
 
 /// Points as a verdict, if they are an explanation.
 fn judge_points(
@@ -188,56 +179,6 @@ fn turns_of<'a>(guesses: &'a [Guess], place: usize) -> &'a [Turn] {
         Some(guess) => guess.turns.as_slice(),
         None => &[],
     }
-}
-
-/// More keys that scans miss are readings. Answers whether there is room for them, and they are new.
-fn list(listed: &mut Listed, missed: &[Absence]) -> Result<bool, NoMemory> {
-    let before = listed.len();
-    if before.saturating_add(missed.len()) > MOST_LISTED {
-        return Ok(false);
-    }
-    listed.extend_from_slice(missed)?;
-    listed.sort_unstable();
-    listed.dedup();
-    Ok(listed.len() != before)
-}
-
-/// All keys that the scans of a transaction miss are readings.
-fn list_all_of(
-    log: &Log,
-    problem: &Problem,
-    t: usize,
-    listed: &mut Listed,
-) -> Result<(), NoMemory> {
-    for (place, scan) in scans_of(log, t).iter().enumerate() {
-        let (from, to) = problem.keys.places_of(scan.scope);
-        for there in from..to {
-            let key = problem.keys.name(problem.keys.key_at(scan.scope, there));
-            if scan.except.binary_search(&key).is_err() {
-                add(
-                    listed,
-                    Absence {
-                        transaction: t,
-                        scan: place,
-                        key,
-                    },
-                )?;
-            }
-        }
-    }
-    Ok(())
-}
-
-/// Whether all keys that scans miss are few together.
-fn are_few(log: &Log, problem: &Problem) -> bool {
-    let mut count: usize = 0;
-    for t in 0..problem.transactions() {
-        for scan in scans_of(log, t) {
-            let (from, to) = problem.keys.places_of(scan.scope);
-            count = count.saturating_add(to.saturating_sub(from));
-        }
-    }
-    count <= MOST_ABSENCES
 }
 
 /// Turns that say that each transaction takes place within so many places after its own by a guess.
@@ -395,7 +336,48 @@ fn by_front(
     }
 }
 
-/// What a search comes to. Its steps count if nothing is assumed.
+/// The steps of a conflict as a verdict.
+fn turn_steps(question: Question<'_>, known: &Known, conflict: usize) -> Result<Turned, NoMemory>
+    ensures { IfOk result (λ turned. IsTurned question.entry.asked.now question.entry.log.now turned) }
+{
+    let steps = steps_of(known, conflict)?;
+    let verdict = judge_steps(question.alloc, question.asked, question.log, steps)?;
+    Ok(Turned::Judged(verdict))
+}
+
+/// What a search came to. Its steps count if nothing is assumed.
+fn turn_outcome(
+    question: Question<'_>,
+    known: &Known,
+    replay: &mut Replay,
+    outcome: Outcome,
+    is_assuming: bool,
+    most: usize,
+) -> Result<Turned, NoMemory>
+    ensures { IfOk result (λ turned. IsTurned question.entry.asked.now question.entry.log.now turned) }
+{
+    match outcome {
+        Outcome::Ordered if known.problem.is_by_points => {
+            let points = known.points()?;
+            turn_points(question, known.problem, points, most)
+        }
+        Outcome::Ordered => {
+            replay.finish(known)?;
+            turn_sources(question, known, replay)
+        }
+        Outcome::Refuted(_) if is_assuming => Ok(Turned::Judged(Verdict::Unknown(NOWHERE))),
+        Outcome::Refuted(conflict) => turn_steps(question, known, conflict),
+        Outcome::Unknown(violations) => {
+            let progress = Progress {
+                conflicts: known.conflicts,
+                violations,
+            };
+            Ok(Turned::Judged(Verdict::Unknown(progress)))
+        }
+    }
+}
+
+/// What a search comes to.
 fn seek(
     question: Question<'_>,
     listed: &[Absence],
@@ -408,26 +390,9 @@ fn seek(
     let problem = problem_of(question, listed, assumed)?;
     let mut known = prepared(question.alloc, &problem, hints);
     let mut replay = Replay::new(question.alloc);
-    match known.seek(question.effort, &mut replay)? {
-        Outcome::Ordered if problem.is_by_points => {
-            let points = known.points()?;
-            turn_points(question, &problem, points, most)
-        }
-        Outcome::Ordered => {
-            replay.finish(&known)?;
-            turn_sources(question, &known, &replay)
-        }
-        Outcome::Refuted(conflict) if assumed.is_empty() => {
-            let steps = steps_of(&known, conflict)?;
-            let verdict = judge_steps(question.alloc, question.asked, question.log, steps)?;
-            Ok(Turned::Judged(verdict))
-        }
-        Outcome::Refuted(_) => Ok(Turned::Judged(Verdict::Unknown(NOWHERE))),
-        Outcome::Unknown(violations) => Ok(Turned::Judged(Verdict::Unknown(Progress {
-            conflicts: known.conflicts,
-            violations,
-        }))),
-    }
+    let outcome = known.seek(question.effort, &mut replay)?;
+    let is_assuming = !assumed.is_empty();
+    turn_outcome(question, &known, &mut replay, outcome, is_assuming, most)
 }
 
 /// Searches until no scan misses a key that has a row.
@@ -543,6 +508,32 @@ fn by_guesses(question: Question<'_>, listed: &mut Listed) -> Result<Verdict, No
     Ok(Verdict::Unknown(NOWHERE))
 }
 
+/// A verdict without a search: by points as they are guessed, or by an order from the front.
+fn by_points(question: Question<'_>, listed: &mut Listed) -> Result<Verdict, NoMemory>
+    ensures { IfOk result (λ verdict. IsVerdict question.entry.asked.now question.entry.log.now verdict) }
+{
+    let found = by_guesses(question, listed)?;
+    if is_known(&found) {
+        return Ok(found);
+    }
+    by_fronts(question, listed.as_slice())
+}
+
+/// A verdict by searches: first by one that assumes nothing, and where none has one, how far that came.
+fn by_all_searches(question: Question<'_>, listed: &mut Listed) -> Result<Verdict, NoMemory>
+    ensures { IfOk result (λ verdict. IsVerdict question.entry.asked.now question.entry.log.now verdict) }
+{
+    let found = by_search(question, listed, hints_of(question.guesses, 0), &[])?;
+    if is_known(&found) {
+        return Ok(found);
+    }
+    let assumed = by_assumption(question, listed)?;
+    if is_known(&assumed) {
+        return Ok(assumed);
+    }
+    Ok(found)
+}
+
 /// What a log is by the rules that are asked for: first by points as they are guessed, then by a search with up to `effort` repairs of an
 /// order, one for which many nodes are looked at counting as several, and where that ends without an answer by others that assume more.
 /// Each guess says where each transaction is expected; the first is that of the search. Without one it is expected at its place in
@@ -565,22 +556,9 @@ pub fn judge(
     };
     let mut listed = Vec::new(alloc);
     list_few(question, &mut listed)?;
-    let found = by_guesses(question, &mut listed)?;
+    let found = by_points(question, &mut listed)?;
     if is_known(&found) {
         return Ok(found);
     }
-    let found = by_fronts(question, listed.as_slice())?;
-    if is_known(&found) {
-        return Ok(found);
-    }
-    let found = by_search(question, &mut listed, hints_of(guesses, 0), &[])?;
-    if is_known(&found) {
-        return Ok(found);
-    }
-    let assumed = by_assumption(question, &mut listed)?;
-    if is_known(&assumed) {
-        return Ok(assumed);
-    }
-    // how far the search came that assumes nothing
-    Ok(found)
+    by_all_searches(question, &mut listed)
 }

@@ -15,6 +15,7 @@ mod judging;
 mod keys;
 mod known;
 mod lanes;
+mod listing;
 mod lists;
 mod narrowing;
 mod nodes;
