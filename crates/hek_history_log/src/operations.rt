@@ -1,5 +1,5 @@
 //! The operations of a transaction.
-ghost use Rattle.std.specs.Prelude.{◌≡◌, ◌<◌, ◌≤◌, ◌^◌, ℕ, List, [], ◌∷◌, ◌++◌, All, Some, Ok, Option, IsOkAnd, length, map, codes, false};
+ghost use Rattle.std.specs.Prelude.{◌≡◌, ◌<◌, ◌≤◌, ◌^◌, ℕ, List, [], ◌∷◌, ◌++◌, All, Some, None, Ok, Option, IsOkAnd, length, map, codes, false, ⊤};
 ghost use Rattle.std.specs.Prelude as prelude;
 ghost use Rattle.json.specs.Json.{Json, boolean, string};
 ghost use Rattle.json.specs.Find.{get};
@@ -202,14 +202,27 @@ fn without_facts<'v, 'a>(kind: Kind, parts: &'v [Value<'a>]) -> &'v [Value<'a>]
 }
 
 /// The version number of an operation of a list, if it has one.
-fn version_in(item: &Value<'_>) -> Result<Option<u64>, Misfit> {
+fn version_in(item: &Value<'_>) -> Result<Option<u64>, Misfit>
+    ensures { (op : SpecOperation) → value_view item.now ≡ operation_json op → result ≡ Ok None }
+{
     let (kind, parts) = parts_in(item)?;
-    let is_write = has_answer(kind) || kind == Kind::Write;
-    let last = match items_of(item) {
-        Some(all) => all.last(),
-        None => None,
+    let Some(all) = items_of(item) else {
+        return Ok(None);
     };
-    match last {
+    if all.len() == plain_count(kind) {
+        return Ok(None);
+    }
+    version_at_end(kind, parts, all)
+}
+
+/// The version number at the end of an operation that has more parts than others of its kind, if it is a write.
+fn version_at_end(
+    kind: Kind,
+    parts: &[Value<'_>],
+    all: &[Value<'_>],
+) -> Result<Option<u64>, Misfit> {
+    let is_write = has_answer(kind) || kind == Kind::Write;
+    match all.last() {
         Some(Value::Object(members)) if is_write && !parts.is_empty() => {
             match members.as_slice() {
                 [(name, value)] if *name == "version" => match number_in(value) {
@@ -229,12 +242,16 @@ pub(crate) fn read_versions(
     object: &Value<'_>,
     transaction: usize,
     versions: &mut Vec<Version>,
-) -> Result<(), LogFault> {
+) -> Result<(), LogFault>
+    ensures { (ops : List SpecOperation)
+        → get (codes "ops") (value_view object.now) ≡ Some (array_json (map operation_json ops))
+        → Gives result LogFault.NoMemory (λ _. ⊤) }
+{
     let Some(items) = items_in(object, "ops") else {
         return Ok(());
     };
-    for (place, item) in items.iter().enumerate() {
-        match version_in(item) {
+    for place in 0..items.len() {
+        match version_in(&items[place]) {
             Ok(Some(number)) => versions.push(Version {
                 transaction,
                 key: place as u64,
