@@ -231,7 +231,9 @@ def controls(command):
     options = re.findall(r"--([a-z-]+) <", run([command, "--help"]).out.decode())
     lines = [([command, *more], given) for given in INPUTS for more in ([], ["-"], ["-", "-"], ["-", "--all"], ["-", "--why"], ["-", "--text"], ["-", "--orders"], [EVIL], ["-", EVIL], [EVIL, EVIL])]
     lines += [([command, f"--{it}", EVIL, "-"], INPUTS[1]) for it in options] + [([command, f"--{EVIL}"], ""), ([EVIL], ""), ([command + EVIL], "")]
-    ran = [(words, run(words, None, given.encode())) for line, given in lines for words in (line, [*line, "--json"], [*line, "--explain"])]
+    # A name may be that of a file to be written, which goes with the folder.
+    with tempfile.TemporaryDirectory(prefix="cases-") as room:
+        ran = [(words, run(words, room, given.encode())) for line, given in lines for words in (line, [*line, "--json"], [*line, "--explain"])]
     bad = [told(f"hostile/control characters:{command}", repr(words), repr(it)) for words, it in ran if BARE.search((it.out + it.err).decode(errors="replace"))]
     return Sum(len(ran) - len(bad), bad, {})
 
