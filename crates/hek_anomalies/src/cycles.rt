@@ -13,7 +13,7 @@ use std::alloc::Global;
 /// How many links of one transaction before another are paired with those back.
 const PAIRED: usize = 6;
 
-/// How many links are gone along in one round, in which no longer cycle is looked for once a cycle was found.
+/// How many links are gone along in one search, in which no longer cycle is looked for once a cycle was found.
 const GONE_ALONG: usize = 5_000_000;
 
 /// Along which links a cycle is looked for.
@@ -138,6 +138,7 @@ impl Cycles {
         self.find_longer(evident, Along::Before)?;
         let rules = problem.rules(0);
         if self.rounds.is_empty() && rules.causes && matches!(rules.own, Own::All) {
+            self.gone = 0;
             return self.find_seen(evident);
         }
         Ok(())
