@@ -311,22 +311,39 @@ impl Cycles {
         Ok(())
     }
 
-    /// Finds a cycle through each read that was written over, along links by which one sees another.
+    /// Finds a cycle through each read that was written over, along links by which one sees another: first where the log has the one that
+    /// wrote over it before the reader, since most logs have their transactions about in order.
     fn find_seen(&mut self, evident: &Evident) -> Result<(), NoMemory> {
         let mut least = usize::MAX;
-        for place in 0..self.links.all.len() {
-            let link = self.link(place);
-            if link.plain {
-                let quest = Quest {
-                    start: link.second,
-                    goal: link.first,
-                    along: Along::Seen,
-                    given: Some(place),
-                };
-                least = self.find_by(evident, quest, least)?;
+        for is_turned in [true, false] {
+            for place in 0..self.links.all.len() {
+                let (reader, writer) = self.link(place).ends();
+                if (writer < reader) == is_turned {
+                    least = self.find_seen_over(evident, place, least)?;
+                }
             }
         }
         Ok(())
+    }
+
+    /// Finds a cycle through a link, if it is a read that was written over, along links by which one sees another.
+    fn find_seen_over(
+        &mut self,
+        evident: &Evident,
+        place: usize,
+        least: usize,
+    ) -> Result<usize, NoMemory> {
+        let link = self.link(place);
+        if !link.plain {
+            return Ok(least);
+        }
+        let quest = Quest {
+            start: link.second,
+            goal: link.first,
+            along: Along::Seen,
+            given: Some(place),
+        };
+        self.find_by(evident, quest, least)
     }
 
     /// Notes where the links of each transaction begin.

@@ -101,13 +101,7 @@ impl Teller<'_> {
             let or = if place == 0 { "" } else { " or " };
             words = format!(in self.alloc; "{words}{or}{name}")?;
         }
-        if told.others {
-            words.push_str(if told.writers.is_empty() {
-                "others"
-            } else {
-                " or others"
-            })?;
-        }
+        words.push_str(others_of(told))?;
         Ok(words)
     }
 
@@ -287,6 +281,16 @@ impl Teller<'_> {
             put(writeln!(lines, "    {words}"))?;
         }
         Ok(())
+    }
+}
+
+/// What is said behind those who may have written what a read found.
+fn others_of(told: &Told) -> &'static str {
+    match (told.writers.is_empty(), told.others) {
+        (true, true) => "others",
+        (true, false) => "nobody",
+        (false, true) => " or others",
+        (false, false) => "",
     }
 }
 
