@@ -1,7 +1,7 @@
 //! Which operation of the log each one is that is left where answers were forgotten.
 use hek_anomalies::{Cause, EdgeKind, OwnFault};
 use hek_levels::Writer;
-use hek_levels_search::{at, list_at};
+use hek_levels_search::at;
 use hek_rules::NoMemory;
 use std::alloc::Global;
 use std::mem;
@@ -23,7 +23,10 @@ impl Numbers {
 
     /// The place in the log of an operation of a transaction.
     pub(crate) fn in_log(&self, t: usize, operation: usize) -> usize {
-        at(list_at(self.of.as_slice(), t), operation, operation)
+        match self.of.get(t) {
+            Some(places) => at(places.as_slice(), operation, operation),
+            None => operation,
+        }
     }
 
     /// Notes the places in the log of the operations that a transaction has now.
