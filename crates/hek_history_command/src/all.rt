@@ -1,6 +1,6 @@
 //! All anomalies of a log, each without the answers on which those before it rest: first those that a weak level excludes.
 use crate::choice::Extent;
-use crate::counted::Tally;
+use crate::counted::{Rest, Tally};
 use crate::forgetting::forget_cause;
 use crate::report::{Answer, Report};
 use crate::verdict::FAILS;
@@ -8,13 +8,6 @@ use hek_anomalies::Cause;
 use hek_ladder::{Finding, Promise, ask, causes_of};
 use hek_report::HekFault;
 use std::io::Write;
-
-/// What is said of the rest.
-const UNKNOWN: &str = "unknown";
-
-const FINE: &str = "holds";
-
-const SERIALIZABLE: &str = "serializable";
 
 /// Whether a level is one that another implies, or that itself.
 fn is_up_to(level: Promise, promise: Promise) -> bool {
@@ -38,7 +31,7 @@ impl<O: Write, W: Write> Report<'_, O, W> {
     ) -> Result<u8, HekFault<'a>> {
         let promise = asked.unwrap_or(Promise::Serializable);
         let mut tally = Tally::new(self.scene.alloc);
-        let mut rest = FINE;
+        let mut rest = Rest::Holds;
         for level in Promise::LEVELS.iter().rev() {
             if is_up_to(*level, promise) {
                 rest = self.say_level_anomalies(asked, *level, held, &mut tally)?;
@@ -47,26 +40,26 @@ impl<O: Write, W: Write> Report<'_, O, W> {
         if !Promise::LEVELS.contains(&promise) {
             rest = self.say_level_anomalies(asked, promise, held, &mut tally)?;
         }
-        if rest == FINE && asked.is_none() {
-            rest = SERIALIZABLE;
+        if rest == Rest::Holds && asked.is_none() {
+            rest = Rest::Serializable;
         }
         self.say_counts(asked, &mut tally, rest, held)?;
         Ok(FAILS)
     }
 
-    /// Writes what keeps the rest of a log from a level, and forgets the answers on which that rests. Answers what is said of what is left.
+    /// Writes what keeps the rest of a log from a level, and forgets the answers on which that rests. Answers what is left.
     fn say_level_anomalies<'a>(
         &mut self,
         asked: Option<Promise>,
         level: Promise,
         held: &[Promise],
         tally: &mut Tally,
-    ) -> Result<&'static str, HekFault<'a>> {
+    ) -> Result<Rest, HekFault<'a>> {
         for _ in 0..usize::MAX {
             let found = ask(&self.scene, level)?;
             match &found {
-                Finding::Holds(_) => return Ok(FINE),
-                Finding::Unknown(_) => return Ok(UNKNOWN),
+                Finding::Holds(_) => return Ok(Rest::Holds),
+                Finding::Unknown(_) => return Ok(Rest::Unknown),
                 Finding::Fails(_) | Finding::Lost(_, _) => {}
             }
             let causes = causes_of(&self.scene, level, &found, true)?;
@@ -80,7 +73,7 @@ impl<O: Write, W: Write> Report<'_, O, W> {
             }
             self.scene.renew()?;
         }
-        Ok(UNKNOWN)
+        Ok(Rest::Unknown)
     }
 
     /// What is said of an anomaly: of the first behind the words of the verdict; objects of JSON say with it at which levels the log holds.

@@ -5,6 +5,26 @@ use hek_rules::NoMemory;
 use std::alloc::Global;
 use std::io::Write;
 
+/// What is said of a log without the answers on which its anomalies rest.
+#[derive(Clone, Copy, PartialEq, Eq)]
+pub(crate) enum Rest {
+    /// It holds at the level that was asked for.
+    Holds,
+    /// It is serializable, for which nobody asked.
+    Serializable,
+    Unknown,
+}
+
+impl Rest {
+    pub(crate) fn word(self) -> &'static str {
+        match self {
+            Rest::Holds => "holds",
+            Rest::Serializable => "serializable",
+            Rest::Unknown => "unknown",
+        }
+    }
+}
+
 /// The anomalies that were told, each name with its number.
 #[derive(Drop)]
 pub(crate) struct Tally {

@@ -1,5 +1,5 @@
 //! Answers as JSON, one object on each line, each with its kind. The members of an object are in the order of their names.
-use crate::counted::Tally;
+use crate::counted::{Rest, Tally};
 use crate::report::{Answer, Kind};
 use hek_history_report::Teller;
 use hek_ladder::{Binding, Promise, Scene};
@@ -92,12 +92,12 @@ fn put_rest(
 }
 
 /// The object of how many anomalies there are of each name.
-pub(crate) fn put_counts(binding: Binding, tally: &Tally, rest: &str, out: &mut Lines) {
+pub(crate) fn put_counts(binding: Binding, tally: &Tally, rest: Rest, out: &mut Lines) {
     out.begin_line();
     tally.put_member(out);
     out.put_text("kind", "counts");
     out.put_text("order", binding.word());
-    out.put_text("rest", rest);
+    out.put_text("rest", rest.word());
     out.put_flag("sessions", binding.sessions);
     out.end_line();
 }

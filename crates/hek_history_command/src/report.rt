@@ -1,6 +1,6 @@
 //! What is written of a log: each answer as text or as an object of JSON, as soon as it is known.
 use crate::choice::{Choice, Extent};
-use crate::counted::Tally;
+use crate::counted::{Rest, Tally};
 use crate::counts::Counts;
 use crate::{json, text};
 use hek_anomalies::Cause;
@@ -140,7 +140,7 @@ impl<O: Write, W: Write> Report<'_, O, W> {
         &mut self,
         asked: Option<Promise>,
         tally: &mut Tally,
-        rest: &'static str,
+        rest: Rest,
         held: &[Promise],
     ) -> Result<(), HekFault<'a>> {
         tally.sort()?;

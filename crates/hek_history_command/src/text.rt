@@ -1,5 +1,5 @@
 //! Answers as text.
-use crate::counted::Tally;
+use crate::counted::{Rest, Tally};
 use crate::counts::Counts;
 use crate::report::{Answer, Kind};
 use hek_anomalies::{Cause, EdgeKind, Evidence};
@@ -182,7 +182,7 @@ pub(crate) fn put_held(held: &[Promise], lines: &mut Vec<u8>) -> Result<(), NoMe
 pub(crate) fn put_counts(
     front: Option<Answer<'_>>,
     tally: &Tally,
-    rest: &str,
+    rest: Rest,
     lines: &mut Vec<u8>,
 ) -> Result<(), NoMemory> {
     match front {
@@ -191,6 +191,7 @@ pub(crate) fn put_counts(
     }
     put(write!(lines, ": "))?;
     tally.put_words(lines)?;
-    let verb = if rest == "holds" { "" } else { "is " };
-    put(writeln!(lines, "; the rest {verb}{rest}"))
+    let verb = if rest == Rest::Holds { "" } else { "is " };
+    let word = rest.word();
+    put(writeln!(lines, "; the rest {verb}{word}"))
 }
