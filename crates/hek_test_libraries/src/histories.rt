@@ -66,28 +66,32 @@ fn overwritten(reader: usize, writer: usize, shown: usize) -> [Step; 9] {
             taken: None,
         },
         Step::Skip {
-            from: shown + 1,
+            from: shown.saturating_add(1),
             number: 0,
         },
-        Step::Only { from: shown + 2 },
+        Step::Only {
+            from: shown.saturating_add(2),
+        },
         Step::AssumeBefore {
             first: Writer::Transaction(writer),
             second: Writer::Transaction(reader),
         },
         Step::Whole {
-            before: shown + 4,
+            before: shown.saturating_add(4),
             place,
             taken: None,
         },
         Step::Newest {
-            visible: shown + 5,
-            source: shown + 3,
+            visible: shown.saturating_add(5),
+            source: shown.saturating_add(3),
         },
         Step::Chain {
-            first: shown + 6,
+            first: shown.saturating_add(6),
             second: shown,
         },
-        Step::Contra { premise: shown + 7 },
+        Step::Contra {
+            premise: shown.saturating_add(7),
+        },
     ]
 }
 
