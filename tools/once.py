@@ -21,8 +21,6 @@ ROW = re.compile(r"const \w+: &Row = &Row \{\n(.*?)\n\};", re.S)
 OTHERS = re.compile(r'Others\(\s*"([^"]+)",\s*&\[(.*?)\]', re.S)
 # A row of a table, or an entry of a list, that begins with an option.
 LISTED = re.compile(r"^(?:\||[-*] ) ?`(?:-\w, |-\w`, `)?--([a-z-]+)[^`]*`")
-# The command whose options these sections list by hand, as long as no page has a table of them from its row.
-BY_HAND, BY_HAND_SECTIONS = "history", {"hek history", "Levels"}
 LEVELS = "docs/LEVELS.md"
 # The pages and sections that may have a table of levels.
 LEVEL_TABLES = {(LEVELS, ""), ("docs/FORMATS.md", "hek check")}
@@ -170,17 +168,16 @@ def wrong_options(pages):
     """Tables of options that aren't what the rows say, lists of options beside them, and commands without a table."""
     rows, _ = commands()
     seen = [name for text in pages.values() for _, name, _ in OPTIONS_OF.findall(text)]
-    by_hand = BY_HAND not in seen
     known = {it.name for row in rows.values() for it in row.arguments}
     for page, text in pages.items():
         yield from wrong_tables(page, text)
         for heading, line in sections(text):
             found = LISTED.match(line)
-            if found and found[1] in known and not (by_hand and heading in BY_HAND_SECTIONS):
+            if found and found[1] in known:
                 yield f"{page}: a second list of options: `--{found[1]}` under {heading}"
     wanted = [SHARED, *(name for name, row in rows.items() if any(not it.is_placed for it in row.own))]
     for name in wanted:
-        if seen.count(name) != 1 and not (by_hand and name == BY_HAND):
+        if seen.count(name) != 1:
             yield f"{seen.count(name)} tables of the options of {name}: one page has `<!-- options of .. -->` once"
 
 

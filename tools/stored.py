@@ -308,7 +308,10 @@ def calls(path, name):
 
 # ---- histories and levels: logs with verdicts
 
-ORDERS = ("any", "versions", "commit", "real")
+ORDERS = ("any", "versions", "real")
+
+# The words of a verdict on each transaction at its own level.
+OWN = {"right": "serial", "wrong": "not serial"}
 
 
 def judge_history(name, number, line):
@@ -318,10 +321,10 @@ def judge_history(name, number, line):
     for order in ORDERS:
         wanted = case.get(order) or case.get("loose", {}).get(order)
         if wanted:
-            ran = run(["history", "--order", order, "--effort", "100000", "-"], None, log)
-            came = re.match(r"(not )?serial|nothing to judge", ran.out.decode())
+            ran = run(["history", "--level", "own", "--order", order, "--effort", "100000", "-"], None, log)
+            came = re.match(r"right|wrong|nothing to judge", ran.out.decode())
             right = "nothing to judge" if not judged else wanted
-            good = came is not None and came[0] == right and ran.status == {"serial": 0, "not serial": 1, "nothing to judge": 3}[right]
+            good = came is not None and OWN.get(came[0], came[0]) == right and ran.status == {"serial": 0, "not serial": 1, "nothing to judge": 3}[right]
             passed, failed = passed + good, failed + ([] if good else [told(f"{name}:{number}", f"{order}: wanted {wanted}, status {ran.status}", *(ran.out + ran.err).decode().splitlines()[:SHOWN])])
     return Sum(passed, failed, {})
 
@@ -334,7 +337,12 @@ def histories(path, name):
 # ---- levels: logs with the verdict at each level, stored or drawn from a seed
 
 # What binds in a verdict, by the end of its name: how it is asked.
-BINDING = {"": ["--levels"], " +sessions": ["--levels", "--sessions"], " +real": ["--levels", "--order", "real"], "guarantees": ["--guarantees"]}
+BINDING = {
+    "": ["--levels", "--order", "any", "--no-sessions"],
+    " +sessions": ["--levels", "--order", "any", "--sessions"],
+    " +real": ["--levels", "--order", "real", "--no-sessions"],
+    "guarantees": ["--guarantees", "--order", "any"],
+}
 GUARANTEES = ("monotonic-reads", "read-your-writes", "monotonic-writes", "writes-follow-reads", "all four")
 
 
@@ -438,6 +446,9 @@ def judge_drawn(name, seed, number):
     tests = brute().tests_of(rows, transactions)
     asked = [it for it in tests if not by_time or it.endswith(" +sessions")]
     verdicts = {it.replace(" +sessions", " +real") if by_time else it: "holds" if tests[it]() else "fails" for it in asked}
+    present = {key for it in transactions for _, key, need in it["reads"] if need[0] == "present"}
+    if any(value is None and key in present for it in transactions for key, value in [*it["writes"].items(), *it["passing"]]):
+        verdicts.pop("read-uncommitted", None)  # the log has a row for a while that such a read may have found
     return judge_levels(name, number, {"name": f"{seed}-{number}", "log": log, **verdicts})
 
 

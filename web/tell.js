@@ -152,10 +152,8 @@ async function answersTo(schedule) {
 // At which levels a log holds: each has its story. A level holds in some order of commits, where `own` goes by the end times.
 function ladderHtml(answers, own) {
   const {esc} = Story.text, seen = new Set(), rungs = answers.filter(it => !seen.has(it.level) && seen.add(it.level));
-  const said = it => ({serial: "✓ holds", other: "✓ holds", unknown: "unknown"})[Story.story.verdictKind(it.verdict)] ?? `<b class="not">✗ ${esc(it.anomaly ?? "fails")}</b>`;
-  const isOther = rungs.some(it => it.level === "serializable" && Story.story.verdictKind(it.verdict) !== "not") && Story.story.verdictKind(own.verdict) === "not";
-  const note = isOther ? "<p>A level holds if some order of commits explains the log. The story goes by the log’s own end times, and in their order the log is not serializable.</p>" : "";
-  return rungs.length ? `<table class="ladder">${rungs.map(it => `<tr><td><button type="button" class="rung" data-level="${esc(it.level)}">${esc(it.level)}</button></td><td>${said(it)}</td></tr>`).join("")}</table>${note}` : "";
+  const said = it => it.verdict === "holds" || /^serializable/.test(it.verdict) ? "✓ holds" : it.verdict === "unknown" ? "unknown" : `<b class="not">✗ ${esc(it.anomaly ?? "fails")}</b>`;
+  return rungs.length ? `<table class="ladder">${rungs.map(it => `<tr><td><button type="button" class="rung" data-level="${esc(it.level)}">${esc(it.level)}</button></td><td>${said(it)}</td></tr>`).join("")}</table>` : "";
 }
 
 // ---- what is shown

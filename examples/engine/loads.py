@@ -73,11 +73,12 @@ def arguments(about, levels):
 
 
 def clients(options, run):
-    """Runs each client in a thread; `run` is given its dice and the numbers of its transactions."""
+    """Runs each client in a thread; `run` is given its name, its dice and the numbers of its transactions."""
     each = options.txns // options.clients
 
     def client(number):
-        return run(random.Random(f"{options.seed} {number}"), range(number * each + 1, (number + 1) * each + 1))
+        numbers = range(number * each + 1, (number + 1) * each + 1)
+        return run(f"client {number + 1}", random.Random(f"{options.seed} {number}"), numbers)
 
     with ThreadPoolExecutor(options.clients) as pool:
         return [it for made in pool.map(client, range(options.clients)) for it in made]

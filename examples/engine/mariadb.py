@@ -157,8 +157,8 @@ def load_pymysql():
 class Client:
     """What a thread runs transactions with, by one connection after another."""
 
-    def __init__(self, server, level):
-        self.server, self.level = server, level
+    def __init__(self, server, level, name):
+        self.server, self.level, self.name = server, level, name
         self.connect()
 
     def connect(self):
@@ -187,7 +187,7 @@ class Client:
         return self.place(f"binlog_gtid_pos('{status['Binlog_snapshot_file']}', {status['Binlog_snapshot_position']})")
 
     def transaction(self, recorder, number, operations):
-        with recorder.transaction(number, LEVELS[self.level]) as made:
+        with recorder.transaction(number, LEVELS[self.level], self.name) as made:
             try:
                 made.begin = made.end = 2 * self.begin() + 1
                 for operation in operations:
@@ -230,8 +230,8 @@ def run_load(server, level, options, recorder):
         chief.count(sql)
     chief.connection.close()
 
-    def client(dice, numbers):
-        it = Client(server, level)
+    def client(name, dice, numbers):
+        it = Client(server, level, name)
         return [it.transaction(recorder, number, loads.operations(dice, number, options.kinds)) for number in numbers]
 
     is_over = threading.Event()

@@ -109,8 +109,8 @@ class Snapshot:
     number: str = ""
 
 
-def transaction(recorder, session, level, number, operations):
-    with recorder.transaction(number, LEVELS[level]) as made:
+def transaction(recorder, name, session, level, number, operations):
+    with recorder.transaction(number, LEVELS[level], name) as made:
         told = Snapshot(made)
         try:
             session.texts(f"begin isolation level {level.replace('-', ' ')}")
@@ -145,9 +145,10 @@ def run_load(server, level, options, recorder):
         chief.texts(sql)
     chief.texts("select pg_create_logical_replication_slot('commits', 'test_decoding')")
 
-    def client(dice, numbers):
+    def client(name, dice, numbers):
         session = Session(server)
-        made = [transaction(recorder, session, level, number, loads.operations(dice, number, options.kinds)) for number in numbers]
+        operations = {number: loads.operations(dice, number, options.kinds) for number in numbers}
+        made = [transaction(recorder, name, session, level, number, it) for number, it in operations.items()]
         session.close()
         return made
 

@@ -83,16 +83,18 @@ class Transaction:
     its place among the commits, and `begin` says which commits it saw. `status` is None until the block ends.
     """
 
-    def __init__(self, name: Cell, level: Level):
+    def __init__(self, name: Cell, level: Level, session: Cell | None = None):
         if level not in LEVELS:
             raise ValueError(f"{level!r} is none of the levels {', '.join(LEVELS)}")
         self.name, self.level = cell(name), level
+        self.session = None if session is None else cell(session)
         self.status: Status | None = None
         self.cause: Cell | None = None
         self.begin: int | None = None
         self.end: int | None = None
         self.at: tuple[int, int | None] | None = None
         self._operations: list[list[Any]] = []
+        self._versions: dict[int, int] = {}
         self._is_asking = False
 
     def read(self, key: Cell, value: Cell | None | Missing = UNANSWERED) -> None:
@@ -138,6 +140,15 @@ class Transaction:
         operation.append(answer)
         self._is_asking = False
 
+    def version(self, number: int) -> None:
+        """The number of the version that the last operation wrote, where the engine tells it: those of a key rise in the order in which
+        its versions came to be."""
+        if not self._operations or self._operations[-1][0] in ("read", "scan", "range"):
+            raise ValueError("no write has this version")
+        if isinstance(number, bool) or not 0 <= number < 1 << 64:
+            raise ValueError(f"{number!r} is no number of a version")
+        self._versions[len(self._operations) - 1] = number
+
     def aborted(self, cause: Cell | None = None) -> None:
         """The engine has rolled the transaction back, for certain. A cause is kept as `x-cause`."""
         self.status, self.cause, self.end = "aborted", cause, None
@@ -163,8 +174,9 @@ class Transaction:
     def line(self) -> dict[str, Any]:
         """The transaction as an object of the log."""
         made: dict[str, Any] = {"txn": self.name, "level": self.level, "status": self.status}
-        made |= {name: it for name in ("begin", "end", "at") if (it := getattr(self, name)) is not None}
-        return made | {"ops": self._answered()} | ({} if self.cause is None else {"x-cause": self.cause})
+        made |= {name: it for name in ("begin", "end", "at", "session") if (it := getattr(self, name)) is not None}
+        ops = [[*it, {"version": self._versions[n]}] if n in self._versions else it for n, it in enumerate(self._answered())]
+        return made | {"ops": ops} | ({} if self.cause is None else {"x-cause": self.cause})
 
     def _answered(self) -> list[list[Any]]:
         if not self._is_asking:
@@ -185,6 +197,8 @@ class Recorder:
 
     With `late`, all lines are written by `close`: until then `transactions` has those that have ended, whose `begin` and `end` may
     be set, for an engine that tells its order of commits only afterwards.
+
+    A transaction of a `session`, as a connection or a client is one, comes after those of it whose lines stand before its own.
     """
 
     def __init__(
@@ -204,9 +218,9 @@ class Recorder:
         self._write(header)
 
     @contextmanager
-    def transaction(self, name: Cell | None = None, level: Level = "serializable") -> Iterator[Transaction]:
+    def transaction(self, name: Cell | None = None, level: Level = "serializable", session: Cell | None = None) -> Iterator[Transaction]:
         """A transaction from the block's first line to its last. Its name is a number if none is given; no two have one name."""
-        made = Transaction(next(self._names) if name is None else name, level)
+        made = Transaction(next(self._names) if name is None else name, level, session)
         invoked = self._clock and self._clock()
         try:
             yield made

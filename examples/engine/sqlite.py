@@ -43,8 +43,8 @@ class Database:
     def close(self):
         self.first.close()
 
-    def transaction(self, recorder, connection, number, operations):
-        with recorder.transaction(number) as made:
+    def transaction(self, recorder, name, connection, number, operations):
+        with recorder.transaction(number, session=name) as made:
             try:
                 connection.execute("begin immediate" if self.level == "immediate" else "begin")
                 made.begin = next(self.clock)
@@ -64,10 +64,10 @@ class Database:
 def run_load(folder, level, options, recorder):
     database = Database(folder, level)
 
-    def client(dice, numbers):
+    def client(name, dice, numbers):
         connection = database.connect()
         operations = {number: loads.operations(dice, number, options.kinds) for number in numbers}
-        made = [database.transaction(recorder, connection, number, it) for number, it in operations.items()]
+        made = [database.transaction(recorder, name, connection, number, it) for number, it in operations.items()]
         connection.close()
         return made
 

@@ -97,9 +97,15 @@ class ImportElle(unittest.TestCase):
 
     def test_appends(self):
         text = done(0, "[[:append 1 1]]") + done(1, "[[:append 1 2] [:r 2 []]]") + done(0, "[[:r 1 [1 2]] [:append 1 3] [:r 1 [1 2 3]]]")
-        self.log(text, '{"txn":"T0","session":["0",0],"at":[0,1],"ops":[["write",1,1]]}',
-                 '{"txn":"T1","session":["1",0],"at":[2,3],"ops":[["write",1,2],["read",2,null]]}',
-                 '{"txn":"T2","session":["0",1],"at":[4,5],"ops":[["read",1,2],["write",1,3],["read",1,3]]}')
+        self.log(text, '{"txn":"T0","session":["0",0],"at":[0,1],"ops":[["write",1,1,{"version":1}]]}',
+                 '{"txn":"T1","session":["1",0],"at":[2,3],"ops":[["write",1,2,{"version":2}],["read",2,null]]}',
+                 '{"txn":"T2","session":["0",1],"at":[4,5],"ops":[["read",1,2],["write",1,3,{"version":3}],["read",1,3]]}')
+
+    def test_an_element_in_no_list_has_no_version(self):
+        text = done(0, "[[:append 1 1] [:append 1 2]]") + done(1, "[[:append 1 3]]") + done(0, "[[:r 1 [1 2]]]")
+        self.log(text, '{"txn":"T0","session":["0",0],"at":[0,1],"ops":[["write",1,1,{"version":1}],["write",1,2,{"version":2}]]}',
+                 '{"txn":"T1","session":["1",0],"at":[2,3],"ops":[["write",1,3]]}',
+                 '{"txn":"T2","session":["0",1],"at":[4,5],"ops":[["read",1,2]]}')
 
     def test_size(self):
         """The log of lists that grow is linear in the appends."""

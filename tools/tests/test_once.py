@@ -102,14 +102,9 @@ class Once(Tree):
         for line in ("With `--state` it is long.", "| `--none` | is no option |", "| `run --state` | a command |"):
             self.assertEqual(self.wrong(f"{text}\n{line}\n"), [], line)
 
-    def test_a_list_by_hand_stands_until_its_command_has_a_table(self):
-        text = self.once.with_options(ALL)
+    def test_a_list_by_hand_is_a_second_one(self):
         listed = "\n## hek history\n\n| `--state` | says it again |\n"
-        self.assertEqual(self.wrong(text + listed), [])
-        self.once.BY_HAND = "run"
-        self.assertEqual(len(self.wrong(text + listed)), 1)
-        without = ALL.replace("<!-- options of hek run, written by tools/references --write -->\n", "")
-        self.assertEqual(self.wrong(self.once.with_options(without) + listed), [])
+        self.assertEqual(self.wrong(self.once.with_options(ALL) + listed), ["docs/A.md: a second list of options: `--state` under hek history"])
 
     def test_a_second_table_of_levels_is_found(self):
         rows = "\n| Level | It says |\n|---|---|\n| `serializable` | all |\n| `snapshot` | some |\n"

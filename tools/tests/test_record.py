@@ -112,6 +112,28 @@ class Logs(Tree):
         with self.recorder() as recorder, self.assertRaises(ValueError), recorder.transaction("a", level="snapshots"):
             pass
 
+    def test_a_transaction_may_be_in_a_session(self):
+        with self.recorder(clock=None) as recorder:
+            for session in ("client 1", 2, None):
+                with recorder.transaction(session=session):
+                    pass
+        self.assertEqual([it.get("session") for it in self.lines()[1:]], ["client 1", 2, None])
+
+    def test_a_write_may_have_a_version(self):
+        def run(t):
+            t.write("x", 1)
+            t.version(3)
+            t.update("y", 2, True)
+            t.version(1)
+            t.read("x", 1)
+
+        self.assertEqual(self.recorded(run)["ops"], [["write", "x", 1, {"version": 3}], ["update", "y", 2, True, {"version": 1}], ["read", "x", 1]])
+
+    def test_only_a_write_has_a_version(self):
+        for wrong in (lambda t: t.version(1), lambda t: (t.read("x", 1), t.version(1)), lambda t: (t.write("x", 1), t.version(-1))):
+            with self.assertRaises(ValueError):
+                self.recorded(wrong)
+
     def test_values_may_be_below_zero(self):
         def run(t):
             t.read("x", -(1 << 63))

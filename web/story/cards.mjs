@@ -5,8 +5,8 @@ import { VERDICTS, verdictKind } from "./story.mjs";
 
 const NONE = "–";
 
-/** A whole story in a thumbnail: outlined reads, filled writes, hatched waits, ticks and crosses; with values where they have room. */
-export function mini(story, w, h, u, step) {
+/** A whole story in a thumbnail: outlined reads, filled writes, hatched waits, ticks and crosses; with values where they have room. Its mark is put at a step by the page. */
+export function mini(story, w, h, u) {
   const count = Math.max(story.columns.length, 1), column = w / count, lane = h / story.names.length, high = lane * 0.8, y = (t) => t * lane + lane * 0.1, size = Math.min(S * u, high * 0.9);
   const rules = story.names.map((_, t) => path(`M0 ${r1(y(t) + high / 2)}H${r1(w)}`, "rule")).join("");
   const waits = story.waits.map(({ t, from, to, by }) => {
@@ -14,8 +14,11 @@ export function mini(story, w, h, u, step) {
     return rect(from * column + 1, y(t) + high * 0.1, (until - from) * column - 2, high * 0.8, "hatch", 2);
   }).join("");
   const boxes = story.columns.map((it, index) => (column < 9 ? tiny(it, index * column, y(it.t), column - 0.5, high) : small(it, index * column, y(it.t), column, high, size))).join("");
-  return svg(w, h, `the run at ${story.level || "its levels"}`, DEFS + rules + waits + boxes + (step > 0 && step <= story.columns.length ? path(`M${r1(step * column)} 0V${r1(h)}`, "mark") : ""));
+  return svg(w, h, `the run at ${story.level || "its levels"}`, DEFS + rules + waits + boxes + `<line y2="100%" class="mark" visibility="hidden"/>`);
 }
+
+/** Where the mark of a thumbnail stands after `step` moves, as a part of its width; null at the start and at the end, where there is none. */
+export const markAt = (story, step) => (step > 0 && step <= story.columns.length ? `${r1((100 * step) / story.columns.length)}%` : null);
 
 function tiny({ kind, t }, x, y, w, h) {
   const kinds = { read: `faint f${colour(t)}`, scan: `faint f${colour(t)}`, write: `f${colour(t)}`, abort: "bad", commit: "inkf" };

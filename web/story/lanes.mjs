@@ -136,12 +136,17 @@ function edges(story, at) {
 
 // ---- all of it
 
-/** The line of a transaction that is alive. */
-function life(story, at, t, step) {
-  const own = story.columns.flatMap((column, index) => (column.t === t && index < step ? [index] : []));
-  if (!own.length) return "";
-  const last = own.at(-1), isOver = /commit|abort|unknown/.test(story.columns[last].kind), y = r1(at.y(t) + at.high / 2);
-  return path(`M${r1(at.left(own[0]) + 3)} ${y}H${r1(isOver ? at.mid(last) : at.right(step))}`, `life s${colour(t)}`);
+/** The line of each transaction that is alive, or was: from its first column to its end. */
+function lives(story, at, step) {
+  const firsts = new Map(), lasts = new Map();
+  story.columns.slice(0, step).forEach(({ t }, index) => {
+    if (!firsts.has(t)) firsts.set(t, index);
+    lasts.set(t, index);
+  });
+  return [...firsts].sort(([one], [other]) => one - other).map(([t, first]) => {
+    const last = lasts.get(t), isOver = /commit|abort|unknown/.test(story.columns[last].kind), y = r1(at.y(t) + at.high / 2);
+    return path(`M${r1(at.left(first) + 3)} ${y}H${r1(isOver ? at.mid(last) : at.right(step))}`, `life s${colour(t)}`);
+  }).join("");
 }
 
 /** What a screen reader says of a column. */
@@ -151,11 +156,11 @@ export const labelOf = (column, index) => `${index + 1}: ${plain(column.say ?? "
 export function lanes(story, at, step, isLive = false) {
   const isEnd = step > at.count, now = Math.min(step, at.count), isCycle = isEnd && story.verdict.kind === "not", kept = inCycle(story), h = at.lane * story.names.length;
   const band = now > 0 && !isEnd ? rect(at.left(now - 1), 0, at.width(now - 1), h, "band") : "", dim = (is) => (is ? ' class="dim"' : "");
-  const rules = story.names.map((_, t) => path(`M0 ${r1(at.y(t) + at.high / 2)}H${r1(at.w)}`, "rule")).join(""), lives = story.names.map((_, t) => life(story, at, t, now)).join("");
+  const rules = story.names.map((_, t) => path(`M0 ${r1(at.y(t) + at.high / 2)}H${r1(at.w)}`, "rule")).join("");
   const bars = story.waits.filter((wait) => wait.from < now).map((wait) => `<g${dim(isCycle)}>${waitBar(story, at, wait, now)}</g>`).join("");
   const live = (column, index) => isLive ? ` data-step="${index + 1}" role="button" tabindex="${index === now - 1 ? 0 : -1}" aria-label="${esc(labelOf(column, index))}"${index === step - 1 ? ' aria-current="step"' : ""}` : "";
-  const boxes = story.columns.slice(0, now).map((column, index) => `<g${live(column, index)}${dim(isCycle && !kept.has(index))}>${title(plain(column.say ?? ""))}${boxOf(column, at, index)}</g>`).join("");
+  const boxes = story.columns.slice(0, now).map((column, index) => `<g${live(column, index)}${dim(isCycle && !kept.has(index))}>${at.boxes[index] ??= `${title(plain(column.say ?? ""))}${boxOf(column, at, index)}`}</g>`).join("");
   const under = isCycle ? story.columns.map((column, index) => (column.kind === "wait" ? "" : rect(at.left(index) + 2, at.y(column.t), at.width(index) - 4, at.high, "chip", column.kind === "commit" ? at.high / 2 : 6))).join("") : "";
   const arrows = isCycle ? "" : frees(story, at, now), found = isCycle ? edges(story, at) : links(story, at, now);
-  return svg(at.w, h, `Lanes of ${story.names.join(", ")} after ${now} of ${at.count} moves`, DEFS + band + rules + lives + bars + arrows + under + boxes + found, isLive ? "group" : "img");
+  return svg(at.w, h, `Lanes of ${story.names.join(", ")} after ${now} of ${at.count} moves`, DEFS + band + rules + lives(story, at, now) + bars + arrows + under + boxes + found, isLive ? "group" : "img");
 }

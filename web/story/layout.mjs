@@ -45,8 +45,8 @@ function slotsOf(stories) {
       return own * 1000 + late;
     });
   });
-  const slots = [...new Set(all.flat())].sort((a, b) => a - b);
-  return { count: slots.length, of: all.map((its) => its.map((slot) => slots.indexOf(slot))) };
+  const slots = new Map([...new Set(all.flat())].sort((a, b) => a - b).map((slot, index) => [slot, index]));
+  return { count: slots.size, of: all.map((its) => its.map((slot) => slots.get(slot))) };
 }
 
 /** The middles of the slots, as in a score: two boxes of one lane don't touch; those of different lanes may overlap in width, and keep their order. */
@@ -81,7 +81,8 @@ function* ways(stories, slots, room, u, isNarrow) {
   if (isNarrow) yield { size: S, widths: needs(S), least: 0.3 * u, isTight: true };
 }
 
-/** Where things stand in a room of `w` and `h`. Columns are shared by lanes and rows, and by the stories of `all`; lanes take the height that the rows leave. */
+/** Where things stand in a room of `w` and `h`. Columns are shared by lanes and rows, and by the stories of `all`; lanes take the height that the rows leave. `boxes` keeps
+ *  what the lanes draw of each column, which is the same after each step. */
 export function layout(story, { w, h, u, all = [story], rows = true }) {
   const isNarrow = w < 34 * u, longest = Math.max(...story.names.map((name) => wide(name, 1, 700)), ...(rows ? story.tracks.map(({ key }) => wide(key, 1, 700)) : [])), nameSize = isNarrow && longest > 2.5 ? S : M;
   const always = rows && story.always.length ? wide("always", S, 700) * u + 0.6 * u : 0;
@@ -101,7 +102,7 @@ export function layout(story, { w, h, u, all = [story], rows = true }) {
   const left = (index) => mid(index) - (widths[index] ?? first) / 2, right = (index) => (index ? mid(index - 1) + (widths[index - 1] ?? first) / 2 : pad);
   const high = heights(story, { h, u, rows, isNarrow });
   return { w: Math.max(most + tail, w - gutter), u, count: story.columns.length, gutter, pad, nameSize, size: high.high > 3.6 * u ? way.size : Math.min(way.size, L), isNarrow, mid, left, right,
-    width: (index) => widths[index] ?? first, ...high };
+    width: (index) => widths[index] ?? first, boxes: [], ...high };
 }
 
 /** Heights: of a lane, of its boxes, of a row. */

@@ -134,11 +134,13 @@ function edgeEnds({ kind, key, read: seen, written, from, to, operations, words 
     .map((it, index) => it ?? own(index ? to : from).at(-1));
 }
 
+const VERDICT = { holds: "serializable", serializable: "serializable", "serializable in another order": "serializable", fails: "not serializable", "not serializable": "not serializable" };
+
 /** The play of a log, whose verdict is an object of `hek history --json`: as serializable, or at the level that it names. */
 export function playOfLog(text, answer) {
   const { rows, txns: all } = read(text), edges = answer.cycle ?? [], txns = chosen(all, edges);
   const moves = txns.flatMap((txn) => [...txn.ops.map((op) => moveOf(op, txn.name, txn.line)), endOf(txn)]);
-  const cycle = edges.map((edge) => ({ ...edge, from: edge.from === null ? null : String(edge.from), to: edge.to === null ? null : String(edge.to), ends: edgeEnds(edge, moves) }));
+  const cycle = edges.map((edge) => ({ ...edge, from: edge.from === null || edge.from === undefined ? null : String(edge.from), to: edge.to === null ? null : String(edge.to), ends: edgeEnds(edge, moves) }));
   const order = constraints(txns, moves, cycle).order(moves), place = (index) => order.indexOf(index) + 1;
   const told = order.map((index) => ({ ...moves[index], ...found(moves[index], moves, rows, place) }));
   return {

@@ -26,7 +26,7 @@ export class StoryPage {
   constructor(sheet, objects, panels) {
     Object.assign(this, { sheet, panels, models: new Map() });
     this.text = sheet.text ?? "";
-    const log = objects.find((it) => it.verdict !== undefined && it.kind === undefined && it.levels === undefined);
+    const log = objects.find((it) => it.kind === "verdict");
     this.plays = log ? [playOfLog(this.text, log)] : objects.filter((it) => it.kind === "play");
     this.outcomes = outcomesOf(objects.filter((it) => it.kind === undefined && it.levels !== undefined));
     this.isLog = Boolean(log);

@@ -1,5 +1,5 @@
 // The story on the page: what is shown of a model at a place, and what keys and clicks do there. Its elements have the ids of story.html.
-import { BAR } from "./cards.mjs";
+import { BAR, markAt } from "./cards.mjs";
 import { cards, compared, sentence, sentenceRoom, stage, told } from "./view.mjs";
 import { questionAt, questionHtml, questions, result } from "./ask.mjs";
 import { samePlace } from "./story.mjs";
@@ -20,6 +20,8 @@ export class Player {
     this.reading = -Infinity;
     this.answers = new Map();
     this.isAsking = false;
+    // Of what the cards were drawn.
+    this.drawn = [];
     this.listen();
   }
 
@@ -63,24 +65,35 @@ export class Player {
     return `<p class="guess ${isRight ? "" : "not"}">${isRight ? "✓ Right." : `✗ The guess was: ${rich(answer, story.names)}.`}</p>`;
   }
 
-  /** The cards, in so much height where the picture wants the rest. */
+  /** The cards, in so much height where the picture wants the rest. A step moves their marks alone. */
   showCards(story, high = null) {
     const { model, place, unit } = this, box = byId("st-cards"), isHidden = place.mode !== "" || place.asks || model.levels.length < 2, narrow = matchMedia(NARROW).matches;
     box.hidden = isHidden;
     if (isHidden) return put(box, "");
     box.style.setProperty("--cards", model.levels.length);
     if (high === null) box.style.removeProperty("--high"); else box.style.setProperty("--high", `${high}px`);
+    const w = box.clientWidth, drawn = [model, place.level, w, unit, narrow, high];
+    if (!box.put || drawn.some((it, index) => it !== this.drawn[index])) this.drawCards(box, cards(model, place, { w, u: unit, narrow }));
+    this.drawn = drawn;
+    for (const card of box.querySelectorAll("[data-card]")) {
+      const its = model.stories[card.dataset.card], mark = card.querySelector(".mark"), x = markAt(its, samePlace(story, place.step, its));
+      mark.setAttribute("visibility", x === null ? "hidden" : "visible");
+      for (const name of ["x1", "x2"]) mark.setAttribute(name, x ?? 0);
+    }
+    return undefined;
+  }
+
+  drawCards(box, html) {
     for (const it of box.querySelectorAll(".more")) it.remove();
     const scrolled = [...box.querySelectorAll(".level")].map((it) => it.scrollTop);
-    put(box, cards(model, story, place, { w: box.clientWidth, u: unit, narrow }));
+    put(box, html);
     box.querySelectorAll(".level").forEach((card, index) => {
       card.scrollTop = scrolled[index] ?? 0;
       if (card.scrollHeight <= card.clientHeight + 2) return;
       // A line over the bars that have no room says how many they are.
-      const all = card.querySelectorAll("[data-order]").length, bar = BAR * unit, top = card.scrollTop + card.lastElementChild.getBoundingClientRect().top - card.getBoundingClientRect().top - card.clientTop, whole = Math.floor((card.clientHeight - top - 1.2 * unit) / bar), h = card.clientHeight - top - whole * bar + 1;
+      const all = card.querySelectorAll("[data-order]").length, bar = BAR * this.unit, top = card.scrollTop + card.lastElementChild.getBoundingClientRect().top - card.getBoundingClientRect().top - card.clientTop, whole = Math.floor((card.clientHeight - top - 1.2 * this.unit) / bar), h = card.clientHeight - top - whole * bar + 1;
       card.insertAdjacentHTML("beforeend", `<div class="more" style="height: ${h}px; margin-top: -${h}px">${all - whole} more ↓</div>`);
     });
-    return undefined;
   }
 
   showStage(story, isLast = false) {
@@ -89,7 +102,7 @@ export class Player {
     const w = Math.floor(main.getBoundingClientRect().width - parseFloat(style.paddingLeft) - parseFloat(style.paddingRight)) - 1, below = byId("st-cards").hidden ? 0 : byId("st-cards").offsetHeight + 0.5 * u;
     const room = { w, h: narrow ? 0 : main.clientHeight - byId("st-say").offsetHeight - below - 1.2 * u, u };
     const { html, at } = place.mode === "compare" ? compared(model, story, place.step, room) : stage(story, place.step, room), hadFocus = view.contains(document.activeElement) && document.activeElement !== view;
-    put(byId("st-grid"), html);
+    draw(byId("st-grid"), html);
     const left = byId("st-cards").offsetHeight - (view.scrollHeight - view.clientHeight) - 1;
     if (!narrow && !isLast && below > 0 && view.scrollHeight > view.clientHeight + 1 && left >= LEAST_CARDS * u) {
       this.showCards(story, left);
@@ -236,14 +249,46 @@ function put(element, html) {
   element.put = html;
 }
 
+/** Puts a picture into an element. What is there already stays: a step of a long story draws only what differs. */
+function draw(element, html) {
+  if (element.put === html) return;
+  const wanted = element.cloneNode(false);
+  wanted.innerHTML = html;
+  become(element, wanted);
+  element.put = html;
+}
+
+/** Makes the children of an element those of another: equal ones stay, and of the others their attributes and children become what is wanted. */
+function become(element, wanted) {
+  let own = element.firstChild, its = wanted.firstChild;
+  while (own && its) {
+    const [after, next] = [own.nextSibling, its.nextSibling];
+    if (own.isEqualNode(its)) [own, its] = [after, next];
+    else if (next && own.isEqualNode(next)) { element.insertBefore(its, own); its = next; }
+    else if (after?.isEqualNode(its)) { own.remove(); own = after; }
+    else {
+      if (own.nodeType === Node.ELEMENT_NODE && own.nodeName === its.nodeName) { dress(own, its); become(own, its); } else own.replaceWith(its);
+      [own, its] = [after, next];
+    }
+  }
+  while (own) { const after = own.nextSibling; own.remove(); own = after; }
+  while (its) { const next = its.nextSibling; element.append(its); its = next; }
+}
+
+/** Gives an element the attributes of another, and no others. */
+function dress(element, wanted) {
+  for (const name of element.getAttributeNames()) if (!wanted.hasAttribute(name)) element.removeAttribute(name);
+  for (const { name, value } of wanted.attributes) if (element.getAttribute(name) !== value) element.setAttribute(name, value);
+}
+
 /** The lines of a text, each an element, with the one of the step marked and the one of an invariant that is broken. */
 export function showText(element, text, story, step) {
   const column = story?.columns[step - 1], isEnd = step > (story?.columns.length ?? 0), broken = isEnd ? story?.verdict.breaks : column?.breaks;
-  put(element, text.trimEnd().split("\n").map((line) => `<span>${esc(line) || " "}</span>`).join(""));
-  [...element.children].forEach((line, index) => {
-    line.classList.toggle("here", column?.line === index + 1);
-    line.classList.toggle("broken", broken === index + 1);
-  });
+  if (element.text !== text) put(element, text.trimEnd().split("\n").map((line) => `<span>${esc(line) || " "}</span>`).join(""));
+  element.text = text;
+  for (const line of element.querySelectorAll(".here, .broken")) line.classList.remove("here", "broken");
+  element.children[column?.line - 1]?.classList.add("here");
+  element.children[broken - 1]?.classList.add("broken");
   const here = element.querySelector(".here, .broken") ?? (step === 0 ? element.firstElementChild : null);
   if (here) element.scrollTop = here.offsetTop - element.offsetTop - element.clientHeight / 2;
 }

@@ -52,9 +52,19 @@ export function sentenceRoom(model, mode) {
 
 const cell = (kind, inside) => `<div class="${kind}">${inside}</div>`;
 
+// The last room of each story, and where things stand in it: no step moves them.
+const laid = new WeakMap();
+
+/** Where things stand in a room, which is the last one at each step but the first. */
+function laidOut(story, { w, h, u }) {
+  const room = `${w} ${h} ${u}`;
+  if (laid.get(story)?.room !== room) laid.set(story, { room, at: layout(story, { w, h, u }) });
+  return laid.get(story).at;
+}
+
 /** The lanes over the rows; answers the HTML and the layout. */
-export function stage(story, step, { w, h, u }) {
-  const at = layout(story, { w, h, u }), parts = [cell("names", names(story, at, step)), cell("lanes", lanes(story, at, step, true))];
+export function stage(story, step, room) {
+  const at = laidOut(story, room), parts = [cell("names", names(story, at, step)), cell("lanes", lanes(story, at, step, true))];
   if (story.tracks.length + story.always.length) parts.push(cell("names", keys(story, at)), cell("tracks", tracks(story, at, step)));
   return { html: parts.join(""), at };
 }
@@ -83,13 +93,13 @@ export function legend({ outcomes, levels, uncounted }) {
 }
 
 /** A card for each level: this order there as a small story, and the outcomes of all orders. That of the level on the wall is no switch. */
-export function cards(model, story, { level, step }, { w, u, narrow }) {
+export function cards(model, { level }, { w, u, narrow }) {
   const inner = (narrow ? w : (w - 0.8 * u * (model.levels.length - 1)) / model.levels.length) - 1.4 * u;
   return legend(model) + model.levels.map((name, index) => {
     const its = model.stories[name], counted = model.outcomes[name], isHere = name === level;
     if (!its) return `<div class="level"><p class="head">${esc(name)}</p></div>`;
     const isBad = its.verdict.kind === "not" || its.verdict.breaks !== null, head = `<span class="head"><span>${esc(name)}</span> <span class="end ${isBad ? "not" : ""}">${esc(shortVerdict(its))}</span></span>`;
-    const small = mini(its, inner, Math.min(3.9, 1.25 * its.names.length) * u, u, samePlace(story, step, its)), label = `this order at ${name}`;
+    const small = mini(its, inner, Math.min(3.9, 1.25 * its.names.length) * u, u), label = `this order at ${name}`;
     const card = isHere ? `<div class="card" aria-current="true">${head}${small}</div>` : `<button class="card" data-level="${esc(name)}" title="${index + 1}: ${label}">${head}${small}</button>`;
     return `<div class="level"${isHere ? " data-here" : ""} data-card="${esc(name)}">${card}${counted ? bars(counted, its.names, inner, u, hasOutcome(its)) : ""}</div>`;
   }).join("");

@@ -1,13 +1,12 @@
 //! What is wrong with an argument of the command line: found before a command runs, and said where faults are explained.
 use crate::commands::Command;
-use crate::histories::asked_of;
 use crate::pages::is_log;
 use crate::rows::{Argument, Value};
 use crate::said::{Said, digits};
 use crate::texts::{Text, pair};
 use clap::ArgMatches;
 use hek_diagnostics::nearest_word;
-use hek_levels_command::{Asked, Promise};
+use hek_ladder::Promise;
 use hek_permute_command::part_of;
 use hek_report::INPUT;
 use hek_rules::number;
@@ -24,8 +23,6 @@ enum Wrong {
     NoWord(&'static str, &'static [&'static str], &'static [&'static str]),
     NoPart,
     NoOrder,
-    /// The value goes with a serial order alone: what is wanted in its place.
-    NoBinding,
     /// It doesn't go with the other words: why, and what is wanted.
     Misfit(&'static str, &'static str),
 }
@@ -45,14 +42,14 @@ pub fn advice_of<'a>(command: Command, found: &ArgMatches<'a>) -> Option<Advice<
             return Some(advice);
         }
     }
-    if command == Command::History {
-        return misfit_of_log(found);
-    }
     if command == Command::Page && is_log(found) {
         return misfit_of_run(found);
     }
     if command == Command::Word && found.get_flag("changes") {
         return misfit_of_changes(found);
+    }
+    if command == Command::History && found.get_flag("no-sessions") {
+        return misfit_of_guarantee(found);
     }
     None
 }
@@ -97,60 +94,20 @@ fn is_among(word: &str, words: &[&str]) -> bool {
     false
 }
 
-const UNBOUND: Wrong = Wrong::Misfit(
-    "sessions bind at no level of this name",
-    "another level, or no --sessions",
-);
-
-const UNORDERED: Wrong = Wrong::Misfit(
-    "a guarantee is about sessions, and has no order",
-    "no --order",
-);
-
-const OF_ORDERS: Wrong = Wrong::Misfit(
-    "this goes with a serial order alone",
-    "serializable, repeatable or snapshot as the level",
-);
-
 const OF_RUNS: Wrong = Wrong::Misfit(
     "this asks something of a run, and a log has none",
     "a schedule as FILE, and --text if its name ends as that of a log",
+);
+
+const OF_SESSIONS: Wrong = Wrong::Misfit(
+    "a guarantee is about sessions",
+    "a level, or no --no-sessions",
 );
 
 const OF_INPUT: Wrong = Wrong::Misfit(
     "exchanges are read from standard input",
     "- as the only word",
 );
-
-/// What doesn't go with the levels or guarantees that a log is asked for.
-fn misfit_of_log<'a>(found: &ArgMatches<'a>) -> Option<Advice<'a>> {
-    let level = found.get_str("level").unwrap_or("");
-    if found.get_flag("sessions") && !level.is_empty() && Promise::named(level).is_none() {
-        return Some(Advice::new("level", level, UNBOUND));
-    }
-    let asked = asked_of(found)?;
-    match found.get_str("order") {
-        Some(value) if is_guarantee(asked) => return Some(Advice::new("order", value, UNORDERED)),
-        Some(value) if value == "versions" || value == "commit" => {
-            return Some(Advice::new("order", value, Wrong::NoBinding));
-        }
-        _ => {}
-    }
-    for option in ["all", "order-out"] {
-        if let Some(value) = found.get_str(option) {
-            return Some(Advice::new(option, value, OF_ORDERS));
-        }
-    }
-    None
-}
-
-/// Whether one guarantee of sessions is asked for.
-fn is_guarantee(asked: Asked) -> bool {
-    match asked {
-        Asked::One(promise) => promise.is_guarantee(),
-        Asked::Levels | Asked::Guarantees | Asked::Both => false,
-    }
-}
 
 /// What the words ask of a run of the machine, which a log doesn't have.
 fn misfit_of_run<'a>(found: &ArgMatches<'a>) -> Option<Advice<'a>> {
@@ -172,6 +129,16 @@ fn misfit_of_changes<'a>(found: &ArgMatches<'a>) -> Option<Advice<'a>> {
     match found.get_strs("WORD") {
         Some([one]) if *one == INPUT => None,
         _ => Some(Advice::new("changes", "", OF_INPUT)),
+    }
+}
+
+/// A guarantee of sessions that is asked for without them.
+fn misfit_of_guarantee<'a>(found: &ArgMatches<'a>) -> Option<Advice<'a>> {
+    let value = found.get_str("level")?;
+    if Promise::named(value)?.is_guarantee() {
+        Some(Advice::new("level", value, OF_SESSIONS))
+    } else {
+        None
     }
 }
 
@@ -226,10 +193,6 @@ impl<'a> Advice<'a> {
             Wrong::NoOrder => {
                 said.message("`@` is not an order of the moves", &[value]);
                 said.wanted("the name of its transaction for each move", &[]);
-            }
-            Wrong::NoBinding => {
-                said.message("`@` goes with a serial order alone", &[value]);
-                said.wanted("any real", &[]);
             }
             Wrong::Misfit(why, wanted) => {
                 said.message("@", &[why]);

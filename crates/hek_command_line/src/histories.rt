@@ -1,37 +1,14 @@
 //! `history`.
 use crate::call::{Answer, Call, OUTPUT};
 use crate::disk::{Disk, LateFile};
-use clap::ArgMatches;
-use hek_history::{Level, Order};
-use hek_history_command::{Choice, Extent, history_command};
-use hek_levels_command::{Asked, Binding, LevelsChoice, Promise, levels_command};
+use hek_history_command::{Asked, Choice, Extent, history_command};
+use hek_ladder::{Promise, Wish};
 use hek_report::HekFault;
 use std::io::{Read, Write};
-
-/// Which levels and guarantees the words ask for: none, where they ask for a serial order alone.
-pub fn asked_of(found: &ArgMatches<'_>) -> Option<Asked> {
-    let sessions = found.get_flag("sessions");
-    match (found.get_flag("levels"), found.get_flag("guarantees")) {
-        (true, true) => return Some(Asked::Both),
-        (true, false) => return Some(Asked::Levels),
-        (false, true) => return Some(Asked::Guarantees),
-        (false, false) => {}
-    }
-    match found.get_str("level") {
-        None if sessions => Some(Asked::Levels),
-        Some(word) if sessions || Level::named(word).is_none() => {
-            Some(Asked::One(Promise::named(word)?))
-        }
-        _ => None,
-    }
-}
 
 impl<'a, D: Disk, I: Read + Drop, W: Write, E: Write> Call<'_, '_, '_, 'a, D, I, W, E> {
     /// Judges a log by what the words ask for. The order that was found goes to a file, or to standard output after the verdict.
     pub fn history(&mut self) -> Answer<'a> {
-        if let Some(asked) = asked_of(self.found) {
-            return self.judge_levels(asked);
-        }
         match self.given("order-out") {
             None => {
                 let mut none: Option<Vec<u8>> = None;
@@ -62,32 +39,11 @@ impl<'a, D: Disk, I: Read + Drop, W: Write, E: Write> Call<'_, '_, '_, 'a, D, I,
         }
     }
 
-    /// Judges a log by levels and guarantees.
-    fn judge_levels(&mut self, asked: Asked) -> Answer<'a> {
-        let choice = LevelsChoice {
-            asked,
-            binding: self.binding(),
-            effort: self.effort(),
-            explains: self.explains,
-            printing: self.printing(),
-        };
-        let name = self.word("FILE");
-        let file = self.open(name)?;
-        levels_command(
-            self.alloc,
-            file,
-            name,
-            choice,
-            &mut self.out,
-            &mut self.faults,
-        )
-    }
-
-    /// Judges a log by serial orders.
+    /// Judges a log.
     fn judge<O: Write>(&mut self, order: &mut Option<O>) -> Answer<'a> {
         let choice = Choice {
-            level: Level::named(self.given("level").unwrap_or("")),
-            order: self.order(),
+            asked: self.asked(),
+            wish: self.wish(),
             extent: Extent::named(self.given("all")),
             effort: self.effort(),
             explains: self.explains,
@@ -106,24 +62,35 @@ impl<'a, D: Disk, I: Read + Drop, W: Write, E: Write> Call<'_, '_, '_, 'a, D, I,
         )
     }
 
-    /// What binds at the levels that the words ask for.
-    fn binding(&self) -> Binding {
-        if self.flag("sessions") {
-            return Binding::Sessions;
+    /// What the words ask of a log.
+    fn asked(&self) -> Asked {
+        match (self.flag("levels"), self.flag("guarantees")) {
+            (true, true) => return Asked::Both,
+            (true, false) => return Asked::Levels,
+            (false, true) => return Asked::Guarantees,
+            (false, false) => {}
         }
-        match self.order() {
-            Some(Order::Real) => Binding::RealTime,
-            None | Some(Order::Any | Order::Versions | Order::Times) => Binding::Nothing,
+        match Promise::named(self.given("level").unwrap_or("")) {
+            Some(promise) => Asked::One(promise),
+            None => Asked::Verdict,
+        }
+    }
+
+    /// Which known facts the words ask to bind.
+    fn wish(&self) -> Wish {
+        let sessions = match (self.flag("sessions"), self.flag("no-sessions")) {
+            (true, _) => Some(true),
+            (false, true) => Some(false),
+            (false, false) => None,
+        };
+        Wish {
+            order: Wish::order_named(self.given("order").unwrap_or("")),
+            sessions,
         }
     }
 
     /// How many repairs of an order the words allow with `--effort`.
     fn effort(&self) -> Option<usize> {
         Some(self.number("effort")? as usize)
-    }
-
-    /// The order that the words ask for with `--order`.
-    fn order(&self) -> Option<Order> {
-        Order::named(self.given("order")?)
     }
 }

@@ -4,7 +4,7 @@ use crate::rows::{
     THOUSAND, Times, Value, given,
 };
 use hek_history_command::Extent;
-use hek_levels_command::Promise;
+use hek_ladder::Promise;
 
 const PERMUTE: &Row = &Row {
     name: "permute",
@@ -103,7 +103,7 @@ pub fn check_row() -> &'static Row {
 
 const HISTORY: &Row = &Row {
     name: "history",
-    about: "Says whether a log of transactions has a serial order, and if not, why not",
+    about: "Says whether a log of transactions is serializable, at which levels it holds, and if not, why not",
     example: r#"A log has a line of JSON for each transaction, and a first line for the rows that were there. Its keys and values are numbers or texts.
 
 Example:
@@ -113,29 +113,30 @@ Where skew.jsonl has the lines
   {"txn":"a","ops":[["read","x",1],["update","y",0,true]]}
   {"txn":"b","ops":[["read","y",1],["update","x",0,true]]}
 it prints
-  not serial: write skew (G2-item)
+  not serializable: write skew (G2-item)
     a read x = 1, which b overwrote with 0    a before b
     b read y = 1, which a overwrote with 0    b before a
-With --levels it says of each level whether the log satisfies it: the last line is
-  fails at serializable; holds at snapshot, parallel-snapshot, causal, read-atomic, monotonic-view, read-committed, read-uncommitted
-The status is 0 if there is an order, or all that is asked for holds, 1 if not, 3 if that is not known or there is nothing to judge, and 4 after a fault of the log."#,
+  holds at snapshot
+All transactions are asked for as if they were at one level. The order of the versions of each key binds where the log has it, by the ends of its transactions or the numbers of its writes, and so do its sessions.
+The status is 0 if the log is serializable, or all that is asked for holds, 1 if not, 3 if that is not known or there is nothing to judge, and 4 after a fault of the log."#,
     arguments: &[
         given!("FILE" => Form::Placed(Times::One, Value::File), "a log, or - for standard input"),
         EXPLAIN,
-        given!("level" => Form::Valued("L", Value::Words("level", Promise::WORDS, &["repeatable"])), "judges all transactions at a level: serializable, repeatable, snapshot, parallel-snapshot, causal, read-atomic, monotonic-view, read-committed or read-uncommitted; or asks for a guarantee of sessions: monotonic-reads, read-your-writes, monotonic-writes, writes-follow-reads, or guarantees for all four"),
-        given!("levels" => Form::Flag, "says of each level whether the log satisfies it, from read-uncommitted to serializable"),
-        given!("sessions" => Form::Flag, "has sessions bind at the level, or at each with --levels: a transaction comes after those before it in its session, and sees them"),
-        given!("guarantees" => Form::Flag, "says of each guarantee of sessions whether the log satisfies it; after the levels, if they are asked for too"),
-        given!("order" => Form::Valued("KIND", Value::Words("order", &["any", "versions", "commit", "real"], &[])), "asks for an order of a kind: any, versions, commit or real; of these levels take any and real"),
+        given!("level" => Form::Valued("L", Value::Words("level", Promise::WORDS, &[])), "asks for one level: serializable, repeatable, snapshot, parallel-snapshot, prefix, causal, read-atomic, monotonic-view, read-committed or read-uncommitted; or own, each transaction at the level of its line; or for a guarantee of sessions: monotonic-reads, read-your-writes, monotonic-writes, writes-follow-reads, or guarantees for all four"),
+        given!("levels" => Form::Flag, "prints a line for each level, from serializable to read-uncommitted"),
+        given!("sessions" => Form::Flag, "has sessions bind, as they do where the log has some: a transaction comes after those before it in its session, and sees them from read-atomic on"),
+        given!("no-sessions" => Form::Flag, "has sessions not bind"),
+        given!("guarantees" => Form::Flag, "prints a line for each guarantee of sessions; after the levels, if they are asked for too"),
+        given!("order" => Form::Valued("KIND", Value::Words("order", &["any", "versions", "real", "versions,real"], &[])), "says which order binds: any, versions, real, or versions,real; without it versions, where the log knows them"),
         given!("effort" => Form::Valued("N", Value::Number("how many repairs at most", 1, ANY)), "tries up to N repairs of an order before it gives up; without it 100000, and one for each transaction"),
         given!("all" => Form::Choice(Extent::WORDS), "goes on after an anomaly, without the answers on which it rests, and counts them by name; =counts prints the counts alone"),
         given!("order-out" => Form::Valued("OUT", Value::File), "writes the order that was found, a line for each transaction; - is standard output, after the verdict"),
         given!("json" => Form::Flag, "writes the verdict as JSON, one object on each line"),
     ],
     rivals: &[
-        Others("levels", &["level", "all", "order-out"]),
-        Others("guarantees", &["level", "order", "all", "order-out"]),
-        Others("sessions", &["order", "all", "order-out"]),
+        Others("levels", &["level"]),
+        Others("guarantees", &["level", "all", "order-out", "no-sessions"]),
+        Others("sessions", &["no-sessions"]),
     ],
     needs: &[],
     asks: Asks::Always,

@@ -4,8 +4,8 @@ use crate::disk::Disk;
 use crate::page_data::write_data;
 use crate::programs::is_program;
 use clap::ArgMatches;
-use hek_history::Level;
-use hek_history_command::{Choice, Extent as LogExtent, history_command};
+use hek_history_command::{Asked, Choice, Extent as LogExtent, history_command};
+use hek_ladder::Wish;
 use hek_page_command::{
     Explored, Extent, Heading, MOST_NODES, Making, Part, explorer_command, levels_command,
     made_file, page_command, program_command,
@@ -27,8 +27,11 @@ const WHOLE: Part = Part {
 };
 
 const AS_SERIALIZABLE: Choice = Choice {
-    level: Some(Level::Serializable),
-    order: None,
+    asked: Asked::Verdict,
+    wish: Wish {
+        order: None,
+        sessions: None,
+    },
     extent: LogExtent::First,
     effort: None,
     explains: false,

@@ -1,4 +1,5 @@
 //! What goes out as text: a control character in it is a picture.
+use hek_diagnostics::pictured;
 use std::alloc::{AllocError, Global};
 use std::io::Write;
 use std::{io, str};
@@ -44,17 +45,4 @@ fn shown(alloc: Global, text: &[u8]) -> Result<String, AllocError> {
         }
     }
     Ok(shown)
-}
-
-/// The picture of a control character, or the character.
-fn pictured(mark: char) -> char {
-    match mark {
-        '\n' | '\t' => mark,
-        '\u{7F}' => '\u{2421}',
-        '\0'..='\u{1F}' | '\u{80}'..='\u{9F}' => {
-            char::from_u32(0x2400 | (u32::from(mark) & 0x1F)).unwrap_or('\u{FFFD}')
-        }
-        '\u{202A}'..='\u{202E}' | '\u{2066}'..='\u{2069}' => '\u{FFFD}',
-        _ => mark,
-    }
 }

@@ -91,10 +91,16 @@ impl Display for Excerpt<'_> {
     }
 }
 
-/// A character as a line shows it: a control character other than a tab is its picture.
-fn pictured(mark: char) -> char {
-    if mark == '\t' || !mark.is_control() {
-        return mark;
+/// A character as it goes out: a control character other than a tab and a line feed is its picture, and one that turns the direction
+/// of the text is U+FFFD.
+pub fn pictured(mark: char) -> char {
+    match mark {
+        '\n' | '\t' => mark,
+        '\u{7F}' => '\u{2421}',
+        '\0'..='\u{1F}' | '\u{80}'..='\u{9F}' => {
+            char::from_u32(0x2400 | (u32::from(mark) & 0x1F)).unwrap_or('\u{FFFD}')
+        }
+        '\u{202A}'..='\u{202E}' | '\u{2066}'..='\u{2069}' => '\u{FFFD}',
+        _ => mark,
     }
-    char::from_u32(0x2400 | (u32::from(mark) & 0x7F)).unwrap_or('?')
 }

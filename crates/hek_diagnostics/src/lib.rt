@@ -29,7 +29,7 @@ mod words;
 
 pub use diagnostic::{Diagnostic, Diagnostics, Listed};
 pub use event::explain_event;
-pub use excerpt::Excerpt;
+pub use excerpt::{Excerpt, pictured};
 pub use image::{ImageDiagnostic, explain_image};
 pub use looks::{OtherBytes, explain_bytes};
 pub use nearest::nearest_word;

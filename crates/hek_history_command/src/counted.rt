@@ -1,10 +1,29 @@
 //! How many anomalies there are of each name.
-use hek_history_report::{anomaly_name, counted_name};
-use hek_history_search::Anomaly;
+use hek_anomalies::Anomaly;
 use hek_report::{Lines, put};
 use hek_rules::NoMemory;
 use std::alloc::Global;
 use std::io::Write;
+
+/// What is said of a log without the answers on which its anomalies rest.
+#[derive(Clone, Copy, PartialEq, Eq)]
+pub(crate) enum Rest {
+    /// It holds at the level that was asked for.
+    Holds,
+    /// It is serializable, for which nobody asked.
+    Serializable,
+    Unknown,
+}
+
+impl Rest {
+    pub(crate) fn word(self) -> &'static str {
+        match self {
+            Rest::Holds => "holds",
+            Rest::Serializable => "serializable",
+            Rest::Unknown => "unknown",
+        }
+    }
+}
 
 /// The anomalies that were told, each name with its number.
 #[derive(Drop)]
@@ -17,6 +36,11 @@ impl Tally {
         Tally {
             counted: Vec::new(alloc),
         }
+    }
+
+    /// Whether nothing was counted.
+    pub(crate) fn is_empty(&self) -> bool {
+        self.counted.is_empty()
     }
 
     /// Counts an anomaly.
@@ -43,7 +67,7 @@ impl Tally {
         for (place, one) in self.counted.iter().enumerate() {
             let (anomaly, count) = *one;
             let comma = if place == 0 { "" } else { ", " };
-            let name = counted_name(anomaly, count);
+            let name = anomaly.counted(count);
             put(write!(lines, "{comma}{count} {name}"))?;
         }
         Ok(())
@@ -56,7 +80,7 @@ impl Tally {
         for one in self.counted.iter() {
             let (anomaly, count) = *one;
             out.begin_object();
-            out.put_text("anomaly", anomaly_name(anomaly));
+            out.put_text("anomaly", anomaly.name());
             out.put_number("count", count);
             out.end_object();
         }

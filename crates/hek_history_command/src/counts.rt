@@ -1,5 +1,7 @@
 //! What is counted of an order that was found.
-use hek_history::{History, Operation, Point};
+use hek_history::Operation;
+use hek_ladder::{Scene, order_of};
+use hek_levels_search::Shown;
 use hek_rules::NoMemory;
 use std::alloc::Global;
 
@@ -12,23 +14,19 @@ pub(crate) struct Counts {
     pub elsewhere: Option<u64>,
 }
 
-/// Counts what takes place.
-pub(crate) fn counts_of(
-    alloc: Global,
-    history: &History,
-    points: &[Point],
-) -> Result<Counts, NoMemory> {
+/// Counts what takes place in an explanation.
+pub(crate) fn counts_of(scene: &Scene, shown: &Shown) -> Result<Counts, NoMemory> {
+    let alloc = scene.alloc;
+    let history = &scene.log.history;
     let mut ends = Vec::new(alloc);
     let mut transactions: u64 = 0;
     let mut reads: u64 = 0;
-    for point in points {
-        if let Point::Commit(place) = *point {
-            if let Some(transaction) = history.transactions.get(place) {
-                transactions = transactions.saturating_add(1);
-                reads = reads.saturating_add(reads_of(transaction.operations.as_slice()));
-                if let Some(end) = transaction.end {
-                    ends.push(end)?;
-                }
+    for place in order_of(alloc, shown)?.iter() {
+        if let Some(transaction) = history.transactions.get(*place) {
+            transactions = transactions.saturating_add(1);
+            reads = reads.saturating_add(reads_of(transaction.operations.as_slice()));
+            if let Some(end) = transaction.end {
+                ends.push(end)?;
             }
         }
     }
@@ -41,13 +39,11 @@ pub(crate) fn counts_of(
 
 /// How many operations are reads or scans.
 fn reads_of(operations: &[Operation]) -> u64 {
-    let mut count: u64 = 0;
-    for operation in operations {
-        if let Operation::Read(_, _) | Operation::Scan(_, _) = operation {
-            count = count.saturating_add(1);
-        }
-    }
-    count
+    let reads = operations.iter().filter(|one| matches!(
+        **one,
+        Operation::Read(_, _) | Operation::Scan(_, _)
+    ));
+    reads.count() as u64
 }
 
 /// How many of these times would have to move for the others to be in order; nothing without times. The times that can

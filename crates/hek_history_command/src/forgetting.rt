@@ -1,12 +1,17 @@
 //! Going on after an anomaly: the answers on which it rests are forgotten.
+use hek_anomalies::{Answer, Cause};
 use hek_history::{Level, Operation, Scope, Transaction, covers, key_of};
+use hek_history_log::Log;
+use hek_ladder::Scene;
+use hek_levels::Writer;
+use hek_levels_search::part;
 use hek_rules::NoMemory;
 use std::alloc::Global;
 use std::mem;
 
 /// Forgets what a transaction was answered: it becomes serializable, without times, and only writes. A history that has an
 /// explanation has one after this too.
-pub(crate) fn forget_answers(alloc: Global, transaction: &mut Transaction) -> Result<(), NoMemory> {
+fn forget_answers(alloc: Global, transaction: &mut Transaction) -> Result<(), NoMemory> {
     let mut operations = Vec::new(alloc);
     for operation in transaction.operations.iter() {
         add_write(&mut operations, operation)?;
@@ -37,11 +42,7 @@ fn add_write(operations: &mut Vec<Operation>, operation: &Operation) -> Result<(
 
 /// Forgets what a transaction was answered at a key. Its writes stay, and its answers at other keys; of a scan of a bucket those at the
 /// other keys that it listed.
-pub(crate) fn forget_answer(
-    alloc: Global,
-    transaction: &mut Transaction,
-    key: u64,
-) -> Result<(), NoMemory> {
+fn forget_answer(alloc: Global, transaction: &mut Transaction, key: u64) -> Result<(), NoMemory> {
     let mut operations = Vec::new(alloc);
     for operation in transaction.operations.iter() {
         add_other(alloc, &mut operations, operation, key)?;
@@ -111,15 +112,11 @@ fn add_parts(
         Scope::Range(from, to) => {
             let before = pairs.partition_point(|pair| pair.0 < key);
             let after = pairs.partition_point(|pair| pair.0 <= key);
-            let (low, _) = split(pairs, before);
-            let (_, high) = split(pairs, after);
+            let low = part(pairs, 0, before);
+            let high = part(pairs, after, pairs.len());
+            let above = Scope::Range(key.saturating_add(1), to);
             add_scan(alloc, operations, Scope::Range(from, key), low)?;
-            add_scan(
-                alloc,
-                operations,
-                Scope::Range(key.saturating_add(1), to),
-                high,
-            )
+            add_scan(alloc, operations, above, high)
         }
         Scope::Bucket(_, _) => {
             for pair in pairs {
@@ -132,11 +129,29 @@ fn add_parts(
     }
 }
 
-/// The parts of a list before a place and from it on.
-fn split(pairs: &[(u64, u64)], place: usize) -> (&[(u64, u64)], &[(u64, u64)]) {
-    if place <= pairs.len() {
-        pairs.split_at(place)
-    } else {
-        (pairs, &[])
+/// Forgets the answers on which an anomaly rests; where it rests on none, the times, versions and session of a transaction of its cycle.
+pub(crate) fn forget_cause(scene: &mut Scene, cause: &Cause) -> Result<(), NoMemory> {
+    for answer in cause.answers.iter() {
+        forget_one(scene.alloc, &mut scene.log, *answer)?;
+    }
+    if cause.answers.is_empty() {
+        for edge in cause.cycle.iter() {
+            if let Writer::Transaction(place) = edge.first {
+                scene.log.forget_turns(place);
+                return Ok(());
+            }
+        }
+    }
+    Ok(())
+}
+
+/// Forgets an answer.
+fn forget_one(alloc: Global, log: &mut Log, answer: Answer) -> Result<(), NoMemory> {
+    let Some(transaction) = log.history.transactions.get_mut(answer.transaction) else {
+        return Ok(());
+    };
+    match answer.key {
+        Some(key) => forget_answer(alloc, transaction, key),
+        None => forget_answers(alloc, transaction),
     }
 }

@@ -1,18 +1,22 @@
-//! The command `history`: whether a log has a serial order, and if not, why not. Also the log of a run of the machine.
+//! The command `history`: which levels a log satisfies, from serializable down, and what keeps it from the others. Also the log of a run
+//! of the machine.
 #![tactic(auto)]
 
+mod all;
 mod choice;
 mod counted;
 mod counts;
 mod explained;
 mod forgetting;
 mod history;
+mod json;
+mod levels;
 mod order_lines;
+mod report;
 mod run_log;
-mod twins;
-mod verdict_json;
-mod verdict_text;
+mod text;
+mod verdict;
 
-pub use choice::{Choice, Extent, effort_for};
+pub use choice::{Asked, Choice, Extent};
 pub use history::history_command;
 pub use run_log::run_log_command;

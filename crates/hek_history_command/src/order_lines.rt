@@ -1,39 +1,51 @@
 //! The order that was found, a line for each point.
 use hek_history::Point;
-use hek_history_log::Log;
-use hek_report::{HekFault, put, send};
+use hek_ladder::{Promise, Scene};
+use hek_levels_search::Shown;
+use hek_report::{HekFault, put, send, send_if_many};
 use hek_rules::NoMemory;
-use std::alloc::Global;
 use std::io::Write;
 
-/// How many bytes of lines are written at once.
-const MANY: usize = 1 << 16;
-
-/// Writes the order that was found: the name of each serializable transaction, and for a snapshot one two lines, with
-/// `begin` and `commit` after its name.
+/// Writes the order that was found: the name of each transaction, and of one that reads before it commits two lines, with `begin` and
+/// `commit` after its name.
 pub(crate) fn write_order<'a, O: Write>(
-    alloc: Global,
-    log: &Log,
-    points: &[Point],
+    scene: &Scene,
+    promise: Option<Promise>,
+    shown: &Shown,
     out: &mut O,
 ) -> Result<(), HekFault<'a>> {
-    let mut lines = Vec::new(alloc);
-    for point in points {
-        put_point(log, *point, &mut lines)?;
-        if lines.len() >= MANY {
-            send(&mut lines, out)?;
+    let mut lines = Vec::new(scene.alloc);
+    match shown {
+        Shown::Points(points) => {
+            for point in points.iter() {
+                put_point(scene, promise, *point, &mut lines)?;
+                send_if_many(&mut lines, out)?;
+            }
+        }
+        Shown::Sources(certificate) => {
+            for t in certificate.order.iter() {
+                let name = scene.log.name(*t);
+                put(writeln!(lines, "{name}"))?;
+                send_if_many(&mut lines, out)?;
+            }
         }
     }
     send(&mut lines, out)
 }
 
-fn put_point(log: &Log, point: Point, lines: &mut Vec<u8>) -> Result<(), NoMemory> {
+/// Appends the line of a point, if it has one.
+fn put_point(
+    scene: &Scene,
+    promise: Option<Promise>,
+    point: Point,
+    lines: &mut Vec<u8>,
+) -> Result<(), NoMemory> {
     let (place, word) = match point {
         Point::Begin(place) => (place, "begin"),
         Point::Commit(place) => (place, "commit"),
     };
-    let name = log.name(place);
-    let written = if is_snapshot(log, place) {
+    let name = scene.log.name(place);
+    let written = if reads_before(scene, promise, place) {
         writeln!(lines, "{name} {word}")
     } else if word == "commit" {
         writeln!(lines, "{name}")
@@ -43,9 +55,14 @@ fn put_point(log: &Log, point: Point, lines: &mut Vec<u8>) -> Result<(), NoMemor
     put(written)
 }
 
-fn is_snapshot(log: &Log, place: usize) -> bool {
-    match log.history.transactions.get(place) {
-        Some(transaction) => transaction.level.is_snapshot(),
+/// Whether a transaction reads before it commits, at the level that is asked for.
+fn reads_before(scene: &Scene, promise: Option<Promise>, place: usize) -> bool {
+    match promise {
         None => false,
+        Some(Promise::Own) => match scene.log.history.transactions.get(place) {
+            Some(transaction) => transaction.level.is_snapshot(),
+            None => false,
+        },
+        Some(promise) => !promise.rules().whole,
     }
 }

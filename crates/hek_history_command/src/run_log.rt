@@ -25,17 +25,11 @@ pub fn run_log_command<'a, R: Read + Drop, W: Write>(
 
 /// The log of the run of a schedule's steps.
 fn lines_of_run(alloc: Global, schedule: &Schedule) -> Result<Vec<u8>, NoMemory> {
-    let transcript = transcript_of(alloc, schedule)?;
+    let mut transcript = Transcript::new(alloc, schedule)?;
+    run_all(alloc, schedule, &mut transcript)?;
     let mut lines = Vec::new(alloc);
     write_run(alloc, schedule, &transcript, &mut lines)?;
     Ok(lines)
-}
-
-/// The events of a schedule's run, with their replies.
-fn transcript_of(alloc: Global, schedule: &Schedule) -> Result<Transcript, NoMemory> {
-    let mut transcript = Transcript::new(alloc, schedule)?;
-    run_all(alloc, schedule, &mut transcript)?;
-    Ok(transcript)
 }
 
 /// Runs a schedule's steps, and notes each with its reply.

@@ -24,7 +24,7 @@ use Rattle.hek_history.specs.Answers.{lay_all, AreRight}
 use Rattle.hek_history.specs.Histories.{operations_in, operations_of, serializable_at, serializable_in, is_serializable, lenient_at, lenient_in, is_lenient, possible_by, possible_in, is_possible, end_in, end_of, begin_of, laid_over, rows_after}
 use Rattle.hek_history.specs.Orders.{earlier, time_of}
 use Rattle.hek_history.specs.Explanation.{At, IsBegin, IsCommit, IsExplanation, AreInOrder}
-use Rattle.hek_history.proofs.Boxes.{front_at}
+use Rattle.hek_history.proofs.Fronts.{front_at}
 use Rattle.hek_history_laws.specs.Recording.{HasCommitted, IsRecordedAt, Records}
 use Rattle.hek_history_laws.specs.Laws.{points_of, SerialRunsHaveExplanations}
 use Rattle.hek_history_laws.proofs.NoFault.{ends_are_apart, order_rises, ender_of, right_in_turn}

@@ -1,5 +1,5 @@
 pub mod Reads
 pub mod Changes
 pub mod Fits
-pub mod Keys
+pub mod Taking
 pub mod Steps

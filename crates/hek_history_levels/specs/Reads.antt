@@ -1,17 +1,17 @@
 -- What the answers of a transaction say of keys that it had not changed itself before.
-use Rattle.std.specs.Prelude.{ℕ, zero, suc, ◌&&◌, Bool, not, if◌then◌else◌, List, [], ◌∷◌, ◌++◌, Option, Some, None, slice_get, take, length}
+use Rattle.std.specs.Prelude.{ℕ, ◌≡◌, ◌⊎◌, Bool, true, if◌then◌else◌, List, Option, Some, None, slice_get, take}
 use Rattle.hek_rules.specs.Listing.{value_of}
 use Rattle.hek_history.specs.declared.history.Operation.{Operation}
 use Rattle.hek_history.specs.declared.history.Operation.TheVariants.{Read, Put, Insert, Update, Delete, Scan}
-use Rattle.hek_history.specs.declared.history.Scope.{Scope}
-use Rattle.hek_history.specs.Answers.{covers, is_change, last_change}
+use Rattle.hek_history.specs.Answers.{key_of, covers}
 use Rattle.hek_levels.specs.declared.log.Need.{Need}
 use Rattle.hek_levels.specs.declared.log.Need.TheVariants.{Absent, Present, Value}
 use Rattle.hek_levels.specs.declared.log.Read.{Read as TheRead}
-
--- whether operations change the key
-abbrev pub changes : List Operation → ℕ → Bool
-changes ops key = is_change (last_change key ops)
+use Rattle.hek_levels.specs.declared.log.Scan.{Scan as TheScan}
+use Rattle.hek_levels.specs.declared.log.Place.{Place}
+use Rattle.hek_levels.specs.declared.log.Place.TheVariants as place
+use Rattle.hek_levels.specs.Logs.{missing_in}
+use Rattle.hek_history_levels.specs.Changes.{left_by}
 
 -- a value is found, or absence
 abbrev pub need_of : Option ℕ → Need
@@ -27,39 +27,32 @@ need_at (Update key value done) = Some (if done then Present else Absent)
 need_at (Delete key done) = Some (if done then Present else Absent)
 need_at (Scan scope pairs) = None
 
-abbrev pub read_of : ℕ → ℕ → Need → TheRead
-read_of n key need = record { operation = n; key = key; need = need }
+-- one of the pairs has the key with the value that is needed
+abbrev pub IsPaired : List (ℕ × ℕ) → ℕ → Need → Type 0
+IsPaired pairs key need = (i : ℕ) × (v : ℕ) × (slice_get pairs i ≡ Some (key, v)) × (need ≡ Value v)
 
--- the read of an operation of one key, if no operation before it changes the key
-abbrev pub own_read : ℕ → List Operation → ℕ → Option Need → List TheRead
-own_read n before key None = []
-own_read n before key (Some need) = if changes before key then [] else read_of n key need ∷ []
+-- what an answer says of a key: a scan has its pairs, and no other key of its scope is there
+abbrev pub Says : Operation → ℕ → Need → Type 0
+Says (Scan scope pairs) key need = IsPaired pairs.items key need ⊎ ((covers scope key ≡ true) × (value_of pairs.items key ≡ None) × (need ≡ Absent))
+Says op key need = (key_of op ≡ key) × (need_at op ≡ Some need)
 
--- a scan reads each of the keys that it is of, absent ones too
-abbrev pub scan_reads : ℕ → List Operation → Scope → List (ℕ × ℕ) → List ℕ → List TheRead
-scan_reads n before scope pairs [] = []
-scan_reads n before scope pairs (key ∷ keys) =
-    if covers scope key && not (changes before key)
-    then read_of n key (need_of (value_of pairs key)) ∷ scan_reads n before scope pairs keys
-    else scan_reads n before scope pairs keys
+-- no answer of absence by a lenient transaction is judged
+abbrev pub IsJudged : Bool → Need → Type 0
+IsJudged lenient need = lenient ≡ true → need ≡ Absent → ⊥
 
--- the reads of the n-th operation, after those before it
-abbrev pub reads_in : List ℕ → ℕ → List Operation → Operation → List TheRead
-reads_in keys n before (Read key found) = own_read n before key (need_at (Read key found))
-reads_in keys n before (Put key value) = []
-reads_in keys n before (Insert key value done) = own_read n before key (need_at (Insert key value done))
-reads_in keys n before (Update key value done) = own_read n before key (need_at (Update key value done))
-reads_in keys n before (Delete key done) = own_read n before key (need_at (Delete key done))
-reads_in keys n before (Scan scope pairs) = scan_reads n before scope pairs.items keys
+-- the n-th operation says this of a key that none before it changes
+pub record IsRead (lenient : Bool) (ops : List Operation) (n key : ℕ) (need : Need) : Type 0 where
+  pub op : Operation
+  pub there : slice_get ops n ≡ Some op
+  pub says : Says op key need
+  pub unchanged : left_by (take n ops) key ≡ None
+  pub judged : IsJudged lenient need
 
-abbrev pub reads_if : List ℕ → ℕ → List Operation → Option Operation → List TheRead
-reads_if keys n before None = []
-reads_if keys n before (Some op) = reads_in keys n before op
+-- the read at a place of reads and scans
+abbrev pub read_of : List TheRead → List TheScan → Place → Option TheRead
+read_of reads scans (place.Listed r) = slice_get reads r
+read_of reads scans (place.Missing s key) = missing_in (slice_get scans s) key
 
--- the reads of the first n operations, and of all
-abbrev pub reads_to : List ℕ → List Operation → ℕ → List TheRead
-reads_to keys ops zero = []
-reads_to keys ops (suc n) = reads_to keys ops n ++ reads_if keys n (take n ops) (slice_get ops n)
-
-abbrev pub reads_of : List ℕ → List Operation → List TheRead
-reads_of keys ops = reads_to keys ops (length ops)
+-- reads and scans have this one
+abbrev pub HasRead : List TheRead → List TheScan → ℕ → ℕ → Need → Type 0
+HasRead reads scans n k need = (r : Place) × (read_of reads scans r ≡ Some (record { operation = n; key = k; need = need }))

@@ -1,49 +1,52 @@
 -- The log of a history, as levels see it.
-use Rattle.std.specs.Prelude.{ℕ, ◌≡◌, ◌↔◌, List, Option, Some, None, slice_get, length, IsTrue}
+use Rattle.std.specs.Prelude.{ℕ, ◌≡◌, ◌↔◌, Bool, true, false, List, [], Option, Some, None, slice_get, length, IsTrue}
+use Rattle.std.specs.Global.{Vec}
 use Rattle.hek_history.specs.declared.history.History.{History}
 use Rattle.hek_history.specs.declared.history.Transaction.{Transaction}
-use Rattle.hek_history.specs.declared.history.Status.{Status}
-use Rattle.hek_history.specs.declared.history.Status.TheVariants.{Committed, Aborted, Unknown}
+use Rattle.hek_history.specs.declared.history.Level.{Level}
+use Rattle.hek_history.specs.declared.history.Level.TheVariants.{Serializable, Snapshot, Repeatable}
 use Rattle.hek_levels.specs.declared.log.Log.{Log}
 use Rattle.hek_levels.specs.declared.log.Transaction.{Transaction as TheTransaction}
-use Rattle.hek_levels.specs.declared.log.Status.{Status as TheStatus}
-use Rattle.hek_levels.specs.declared.log.Status.TheVariants as status
+use Rattle.hek_levels.specs.declared.log.Need.{Need}
 use Rattle.hek_levels.specs.declared.log.Turn.{Turn}
-use Rattle.hek_history_levels.specs.Reads.{reads_of}
-use Rattle.hek_history_levels.specs.Changes.{writes_of, passing_of}
+use Rattle.hek_levels.specs.declared.log.Change.{Change}
+use Rattle.hek_levels.specs.Logs.{left_in}
+use Rattle.hek_history_levels.specs.Changes.{left_by, IsPassing}
+use Rattle.hek_history_levels.specs.Reads.{IsRead, HasRead}
 use Rattle.hek_history_levels.specs.Fits.{AreFitting}
-use Rattle.hek_history_levels.specs.Keys.{AreKeys}
 
-abbrev pub status_of : Status → TheStatus
-status_of Committed = status.Committed
-status_of Aborted = status.Aborted
-status_of Unknown = status.Unknown
+-- whether no answer of absence is judged
+abbrev pub is_lenient : Level → Bool
+is_lenient Serializable = false
+is_lenient Snapshot = false
+is_lenient Repeatable = true
 
-abbrev pub turn_in : Option (Option Turn) → Option Turn
-turn_in None = None
-turn_in (Some turn) = turn
+abbrev pub turns_in : Option (Vec Turn) → List Turn
+turns_in None = []
+turns_in (Some turns) = turns.items
 
--- the turn of t, if it is given
-abbrev pub turn_at : List (Option Turn) → ℕ → Option Turn
-turn_at turns t = turn_in (slice_get turns t)
+-- the turns of t; one for which none are given has none
+abbrev pub turns_at : List (Vec Turn) → ℕ → List Turn
+turns_at turns t = turns_in (slice_get turns t)
 
--- y is the transaction x as levels see it
-pub record IsSeen (keys : List ℕ) (place : Option Turn) (x : Transaction) (y : TheTransaction) : Type 0 where
-  pub status : y.status ≡ status_of x.status
-  pub turn : y.turn ≡ place
-  pub fits : IsTrue y.fits ↔ AreFitting x.operations.items
-  pub reads : y.reads.items ≡ reads_of keys x.operations.items
-  pub writes : y.writes.items ≡ writes_of x.operations.items
-  pub passing : y.passing.items ≡ passing_of x.operations.items
+-- the change is among these
+abbrev pub IsIn : List Change → Change → Type 0
+IsIn changes c = (i : ℕ) × (slice_get changes i ≡ Some c)
+
+-- y is the transaction x as levels see it, with these turns
+pub record IsSeen (given : List Turn) (x : Transaction) (y : TheTransaction) : Type 0 where
+  pub status : y.status ≡ x.status
+  pub turns : y.turns.items ≡ given
+  pub fits : IsTrue y.fits ↔ AreFitting (is_lenient x.level) x.operations.items
+  pub reads : (n key : ℕ) (need : Need) → HasRead y.reads.items y.scans.items n key need ↔ IsRead (is_lenient x.level) x.operations.items n key need
+  pub writes : (key : ℕ) → left_in y.writes.items key ≡ left_by x.operations.items key
+  pub passing : (c : Change) → IsIn y.passing.items c ↔ IsPassing x.operations.items (length x.operations.items) c
 
 -- the transactions at these places
-pub record AreSeen (keys : List ℕ) (turns : List (Option Turn)) (h : History) (ys : List TheTransaction) : Type 0 where
-  pub each : (t : ℕ) (x : Transaction) (y : TheTransaction) → slice_get h.transactions.items t ≡ Some x → slice_get ys t ≡ Some y → IsSeen keys (turn_at turns t) x y
+pub record AreSeen (turns : List (Vec Turn)) (h : History) (ys : List TheTransaction) : Type 0 where
+  pub each : (t : ℕ) (x : Transaction) (y : TheTransaction) → slice_get h.transactions.items t ≡ Some x → slice_get ys t ≡ Some y → IsSeen (turns_at turns t) x y
 
-pub record IsLogOf (h : History) (turns : List (Option Turn)) (log : Log) : Type 0 where
-  -- the keys that scans read
-  pub keys : List ℕ
-  pub named : AreKeys h keys
+pub record IsLogOf (h : History) (turns : List (Vec Turn)) (log : Log) : Type 0 where
   pub rows : log.rows.items ≡ h.rows.items
   pub count : length log.transactions.items ≡ length h.transactions.items
-  pub seen : AreSeen keys turns h log.transactions.items
+  pub seen : AreSeen turns h log.transactions.items

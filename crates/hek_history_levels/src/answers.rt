@@ -1,69 +1,46 @@
-//! What operations do to a key, and whether an answer is right.
+//! What operations leave at a key, and whether an answer is right.
 ghost use Rattle.std.specs.Prelude.{◌≡◌};
 ghost use Rattle.hek_rules.specs.Listing.{value_of as value_in};
-ghost use Rattle.hek_history.specs.Answers.{after as value_after_change, is_change as is_any, followed_by as composed, change_at as change_there, last_change as last_of, fits as fits_at, same_found as same_as, tells as told_by};
-ghost use Rattle.hek_history_levels.specs.Reads.{changes as changes_it};
-ghost use Rattle.std.specs.Prelude.{None};
+ghost use Rattle.hek_history.specs.Answers.{fits as fits_at, same_found as same_as, tells as told_by, allows as allowed_by};
+ghost use Rattle.hek_history_levels.specs.Changes.{left_of};
+ghost use Rattle.hek_history_levels.specs.Reads.{need_of as need_in, need_at as need_there};
 
-use hek_history::{Change, Operation, change_of, covers, key_of};
+use hek_history::{Change, Operation, covers, key_of};
+use hek_levels::Need;
 
-/// Whether anything is done to the key.
-pub(crate) fn is_change(change: Change) -> bool
-    ensures { result ≡ is_any change }
+/// What a change leaves of a key, if it changes it.
+pub(crate) fn left(change: Change) -> Option<Option<u64>>
+    ensures { result ≡ left_of change }
 {
     match change {
-        Change::Keep => false,
-        Change::Remove | Change::Set(_) => true,
+        Change::Keep => None,
+        Change::Remove => Some(None),
+        Change::Set(x) => Some(Some(x)),
     }
 }
 
-/// What a change leaves of a key that was absent.
-pub(crate) fn left(change: Change) -> Option<u64>
-    ensures { result ≡ value_after_change change None }
+/// A value is found, or absence.
+fn need_of(found: Option<u64>) -> Need
+    ensures { result ≡ need_in found }
 {
-    match change {
-        Change::Keep | Change::Remove => None,
-        Change::Set(x) => Some(x),
+    match found {
+        None => Need::Absent,
+        Some(x) => Need::Value(x),
     }
 }
 
-/// One change and then another.
-fn followed_by(first: Change, later: Change) -> Change
-    ensures { result ≡ composed first later }
+/// What an answer says of the operation's key, if it says something.
+pub(crate) fn need_at(operation: &Operation) -> Option<Need>
+    ensures { result ≡ need_there operation.now }
 {
-    match later {
-        Change::Keep => first,
-        Change::Remove | Change::Set(_) => later,
+    match operation {
+        Operation::Read(_, found) => Some(need_of(*found)),
+        Operation::Put(_, _) | Operation::Scan(_, _) => None,
+        Operation::Insert(_, _, done) => { Some(if *done { Need::Absent } else { Need::Present }) }
+        Operation::Update(_, _, done) | Operation::Delete(_, done) => {
+            Some(if *done { Need::Present } else { Need::Absent })
+        }
     }
-}
-
-/// What an operation does to a key.
-fn change_at(key: u64, operation: &Operation) -> Change
-    ensures { result ≡ change_there key operation.now }
-{
-    if key_of(operation) == key {
-        change_of(operation)
-    } else {
-        Change::Keep
-    }
-}
-
-/// What operations in order do to a key: its last change.
-pub(crate) fn last_change(key: u64, operations: &[Operation]) -> Change
-    ensures { result ≡ last_of key operations.now }
-{
-    let mut change = Change::Keep;
-    for operation in operations {
-        change = followed_by(change, change_at(key, operation));
-    }
-    change
-}
-
-/// Whether operations change the key.
-pub(crate) fn changes(operations: &[Operation], key: u64) -> bool
-    ensures { result ≡ changes_it operations.now key }
-{
-    is_change(last_change(key, operations))
 }
 
 /// The value of a key in rows.
@@ -114,7 +91,7 @@ fn fits(operation: &Operation, value: Option<u64>) -> bool
 }
 
 /// Whether the answer says that the key had this value, or was absent.
-pub(crate) fn tells(key: u64, operation: &Operation, value: Option<u64>) -> bool
+fn tells(key: u64, operation: &Operation, value: Option<u64>) -> bool
     ensures { result ≡ told_by key operation.now value }
 {
     match operation {
@@ -134,4 +111,11 @@ pub(crate) fn tells(key: u64, operation: &Operation, value: Option<u64>) -> bool
             }
         }
     }
+}
+
+/// Whether the answer allows that the key had this value, or was absent; a lenient one allows all where it is right of absence.
+pub(crate) fn allows(lenient: bool, key: u64, operation: &Operation, value: Option<u64>) -> bool
+    ensures { result ≡ allowed_by lenient key operation.now value }
+{
+    lenient && tells(key, operation, None) || tells(key, operation, value)
 }

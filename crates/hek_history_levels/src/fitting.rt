@@ -1,11 +1,11 @@
 //! Whether the answers of a transaction agree with what it had done itself.
-ghost use Rattle.std.specs.Prelude.{◌≡◌, ◌<◌, ◌↔◌, ℕ, suc, true, Some, None, slice_get, take, IsTrue};
-ghost use Rattle.hek_history.specs.declared.history.Operation.{Operation as TheOperation};
-ghost use Rattle.hek_history.specs.Answers.{IsByKey, last_change as last_of, after as value_after_change, tells as told_by};
-ghost use Rattle.hek_history_levels.specs.Reads.{changes as changes_it};
-ghost use Rattle.hek_history_levels.specs.Fits.{AreCovered, IsOfScope, AgreesWith, IsFitting, AreFitting};
+ghost use Rattle.std.specs.Prelude.{◌≡◌, ◌<◌, ◌↔◌, ℕ, suc, true, Option, Some, slice_get, IsTrue};
+ghost use Rattle.hek_history.specs.Answers.{IsByKey, allows as allowed_by};
+ghost use Rattle.hek_history_levels.specs.Fits.{AreCovered, IsOfScope, IsFitting};
+ghost use Rattle.hek_history_levels.specs.Taking.{own_left, IsOwn};
 
-use crate::answers::{changes, is_change, last_change, left, tells};
+use crate::answers::allows;
+use crate::own::{Own, own_of};
 use hek_history::{Operation, Scope, covers, key_of};
 
 /// Whether each pair's key is greater than that of the one before.
@@ -52,55 +52,45 @@ fn is_of_scope(operation: &Operation) -> bool
     }
 }
 
-/// Whether the answer of a key, if operations before change it, is that of their last change.
-fn agrees_at(before: &[Operation], operation: &Operation, key: u64) -> bool
-    ensures { IsTrue result ↔ (changes_it before.now key ≡ true → told_by key operation.now (value_after_change (last_of key before.now) None) ≡ true) }
+/// Whether the answer allows what the transaction itself has left at a key, if it has changed it.
+fn agrees_at(lenient: bool, own: &Own, operation: &Operation, key: u64) -> bool
+    ensures { IsTrue result ↔ ((v : Option ℕ) → own_left own.now key ≡ Some v → allowed_by lenient key operation.now v ≡ true) }
 {
-    let own = last_change(key, before);
-    if is_change(own) {
-        tells(key, operation, left(own))
-    } else {
-        true
+    match own_of(own, key) {
+        Some(value) => allows(lenient, key, operation, value),
+        None => true,
     }
 }
 
-/// The same of each key that an operation before is of.
-fn agrees_at_each(before: &[Operation], operation: &Operation) -> bool
-    ensures { IsTrue result ↔ AgreesWith before.now operation.now }
+/// The same of each key that it has changed.
+fn agrees_at_each(lenient: bool, own: &Own, operation: &Operation) -> bool
+    requires { IsOwn own.now }
+    ensures { IsTrue result ↔ ((key : ℕ) (v : Option ℕ) → own_left own.now key ≡ Some v → allowed_by lenient key operation.now v ≡ true) }
 {
-    for n in 0..before.len() {
-        if !agrees_at(before, operation, key_of(&before[n])) {
+    let writes = own.writes.as_slice();
+    for n in 0..writes.len() {
+        if !agrees_at(lenient, own, operation, writes[n].key) {
             return false;
         }
     }
     true
 }
 
-/// Whether the answer of a key that operations before it change is that of their last change.
-fn agrees_with(before: &[Operation], operation: &Operation) -> bool
-    ensures { IsTrue result ↔ AgreesWith before.now operation.now }
+/// Whether the answer allows what the transaction itself has left.
+fn agrees(lenient: bool, own: &Own, operation: &Operation) -> bool
+    requires { IsOwn own.now }
+    ensures { IsTrue result ↔ ((key : ℕ) (v : Option ℕ) → own_left own.now key ≡ Some v → allowed_by lenient key operation.now v ≡ true) }
 {
     match operation {
-        Operation::Scan(_, _) => agrees_at_each(before, operation),
-        _ => agrees_at(before, operation, key_of(operation)),
+        Operation::Scan(_, _) => agrees_at_each(lenient, own, operation),
+        _ => agrees_at(lenient, own, operation, key_of(operation)),
     }
 }
 
-/// Whether an answer can be right, after the operations before it.
-fn is_fitting(before: &[Operation], operation: &Operation) -> bool
-    ensures { IsTrue result ↔ IsFitting before.now operation.now }
+/// Whether an answer can be right, where the transaction itself has left this.
+pub(crate) fn is_fitting(lenient: bool, own: &Own, operation: &Operation) -> bool
+    requires { IsOwn own.now }
+    ensures { IsTrue result ↔ IsFitting lenient (own_left own.now) operation.now }
 {
-    is_by_key(operation) && is_of_scope(operation) && agrees_with(before, operation)
-}
-
-/// Whether all answers can be right, by what the operations before them did.
-pub(crate) fn are_fitting(operations: &[Operation]) -> bool
-    ensures { IsTrue result ↔ AreFitting operations.now }
-{
-    for n in 0..operations.len() {
-        if !is_fitting(&operations[..n], &operations[n]) {
-            return false;
-        }
-    }
-    true
+    is_by_key(operation) && is_of_scope(operation) && agrees(lenient, own, operation)
 }

@@ -3,10 +3,10 @@
 #![tactic(auto)]
 
 mod answers;
-mod changes;
 mod fitting;
-mod keys;
+mod own;
 mod reads;
 mod step;
+mod transaction;
 
 pub use step::log_of;

@@ -159,6 +159,8 @@ pub enum Wanted {
     BucketCount,
     /// The scanned bucket is below the number of buckets.
     Bucket,
+    /// The object at the end of a write says the number of its version.
+    Version,
 }
 
 impl Wanted {
@@ -201,6 +203,7 @@ impl Wanted {
             Wanted::Ends => "a range between two numbers or two texts",
             Wanted::BucketCount => r#""buckets" on the first line, for a scan of a bucket"#,
             Wanted::Bucket => r#"a bucket below "buckets""#,
+            Wanted::Version => r#"{"version":N} at the end of a write, a number below 2^64"#,
         }
     }
 }

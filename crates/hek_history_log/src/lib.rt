@@ -18,7 +18,7 @@ mod spot;
 mod symbols;
 
 pub use fault::{LogFault, Wanted};
-pub use logged::{Log, Turn};
+pub use logged::{Log, Turn, Version};
 pub use pinpoint::{Mistake, Pinpoint, mistake_in};
 pub use reader::{FaultWatch, read_log, read_log_watching};
 pub use run::write_run;

@@ -16,6 +16,15 @@ pub struct Log {
     pub(crate) names: Names,
     pub(crate) keys: KeyLabels,
     pub(crate) values: Labels,
+    pub(crate) versions: Vec<Version>,
+}
+
+/// The number of the version that a transaction writes at a key.
+#[derive(Clone, Copy, Debug, PartialEq, Eq)]
+pub struct Version {
+    pub transaction: usize,
+    pub key: u64,
+    pub number: u64,
 }
 
 /// A place in a session: the number that stands for its name, and the number of the place.
@@ -117,6 +126,39 @@ impl Log {
     /// Whether a transaction of the log is in a session.
     pub fn has_sessions(&self) -> bool {
         !self.names.turns.is_empty()
+    }
+
+    /// The version numbers of the writes of the transaction at a place of the history.
+    pub fn versions_of(&self, transaction: usize) -> &[Version] {
+        let from = self
+            .versions
+            .partition_point(|one| one.transaction < transaction);
+        let to = self
+            .versions
+            .partition_point(|one| one.transaction <= transaction);
+        match self.versions.get(from..to) {
+            Some(list) => list,
+            None => &[],
+        }
+    }
+
+    /// Forgets when a transaction took place: its times, the version numbers of its writes, and its place in a session.
+    pub fn forget_turns(&mut self, transaction: usize) {
+        self.versions.retain(|one| one.transaction != transaction);
+        if let Some(turn) = self.names.turns.get_mut(transaction) {
+            *turn = None;
+        }
+        if let Some(there) = self.history.transactions.get_mut(transaction) {
+            there.begin = None;
+            there.end = None;
+            there.invoked = None;
+            there.answered = None;
+        }
+    }
+
+    /// Whether a write of the log has a version number.
+    pub fn has_versions(&self) -> bool {
+        !self.versions.is_empty()
     }
 
     /// The name of the session that a number of a turn stands for.

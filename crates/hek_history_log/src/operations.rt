@@ -1,5 +1,5 @@
 //! The operations of a transaction.
-ghost use Rattle.std.specs.Prelude.{◌≡◌, ◌<◌, ◌≤◌, ◌^◌, ℕ, List, [], ◌∷◌, ◌++◌, All, Some, Ok, Option, IsOkAnd, map, codes, false};
+ghost use Rattle.std.specs.Prelude.{◌≡◌, ◌<◌, ◌≤◌, ◌^◌, ℕ, List, [], ◌∷◌, ◌++◌, All, Some, None, Ok, Option, IsOkAnd, length, map, codes, false, ⊤};
 ghost use Rattle.std.specs.Prelude as prelude;
 ghost use Rattle.json.specs.Json.{Json, boolean, string};
 ghost use Rattle.json.specs.Find.{get};
@@ -19,6 +19,7 @@ ghost use Rattle.hek_history_log.specs.Readable.{IsOwn, IsOwnFound, IsReadable, 
 
 use crate::fault::{LogFault, Wanted};
 use crate::log_line::{LogLine, Misfit};
+use crate::logged::Version;
 use crate::numbering::Labels;
 use crate::shown::Label;
 use crate::spot::Spot;
@@ -172,7 +173,95 @@ fn parts_in<'v, 'a>(item: &'v Value<'a>) -> Result<(Kind, &'v [Value<'a>]), Misf
     let Some(kind) = kind_of(parts) else {
         return Err(Misfit::Wanted(Wanted::Operation));
     };
-    Ok((kind, parts))
+    Ok((kind, without_facts(kind, parts)))
+}
+
+/// How many parts an operation of a kind has without what is known beside it.
+fn plain_count(kind: Kind) -> usize
+    ensures { (op : SpecOperation) → kind ≡ kind_of op → result ≡ length (parts_of op) }
+{
+    match kind {
+        Kind::Read | Kind::Write | Kind::Delete | Kind::Scan => 3,
+        Kind::Insert | Kind::Update | Kind::Range => 4,
+    }
+}
+
+/// The parts of an operation without the object that a write may have at its end.
+fn without_facts<'v, 'a>(kind: Kind, parts: &'v [Value<'a>]) -> &'v [Value<'a>]
+    ensures { (op : SpecOperation) → kind ≡ kind_of op → map value_view parts.now ≡ parts_of op
+        → map value_view result.now ≡ parts_of op }
+{
+    let is_write = has_answer(kind) || kind == Kind::Write;
+    if parts.len() == plain_count(kind) || !is_write {
+        return parts;
+    }
+    match parts {
+        [others @ .., Value::Object(_)] => others,
+        _ => parts,
+    }
+}
+
+/// The version number of an operation of a list, if it has one.
+fn version_in(item: &Value<'_>) -> Result<Option<u64>, Misfit>
+    ensures { (op : SpecOperation) → value_view item.now ≡ operation_json op → result ≡ Ok None }
+{
+    let (kind, parts) = parts_in(item)?;
+    let Some(all) = items_of(item) else {
+        return Ok(None);
+    };
+    if all.len() == plain_count(kind) {
+        return Ok(None);
+    }
+    version_at_end(kind, parts, all)
+}
+
+/// The version number at the end of an operation that has more parts than others of its kind, if it is a write.
+fn version_at_end(
+    kind: Kind,
+    parts: &[Value<'_>],
+    all: &[Value<'_>],
+) -> Result<Option<u64>, Misfit> {
+    let is_write = has_answer(kind) || kind == Kind::Write;
+    match all.last() {
+        Some(Value::Object(members)) if is_write && !parts.is_empty() => {
+            match members.as_slice() {
+                [(name, value)] if *name == "version" => match number_in(value) {
+                    Some(number) => Ok(Some(number)),
+                    None => Err(Misfit::Wanted(Wanted::Version)),
+                },
+                _ => Err(Misfit::Wanted(Wanted::Version)),
+            }
+        }
+        _ => Ok(None),
+    }
+}
+
+/// Adds the version numbers of the writes of a transaction, each with the place of its operation.
+pub(crate) fn read_versions(
+    line: LogLine<'_>,
+    object: &Value<'_>,
+    transaction: usize,
+    versions: &mut Vec<Version>,
+) -> Result<(), LogFault>
+    ensures { (ops : List SpecOperation)
+        → get (codes "ops") (value_view object.now) ≡ Some (array_json (map operation_json ops))
+        → Gives result LogFault.NoMemory (λ _. ⊤) }
+{
+    let Some(items) = items_in(object, "ops") else {
+        return Ok(());
+    };
+    for place in 0..items.len() {
+        match version_in(&items[place]) {
+            Ok(Some(number)) => versions.push(Version {
+                transaction,
+                key: place as u64,
+                number,
+            })?,
+            Ok(None) => {}
+            Err(misfit) => return Err(line.fault(Spot::Item("ops", place), misfit)),
+        }
+    }
+    Ok(())
 }
 
 fn add(operation: Operation, operations: &mut Vec<Operation>) -> Result<(), Misfit>

@@ -26,8 +26,8 @@ use crate::fields::{
 use crate::finish::finish;
 use crate::input::read_line;
 use crate::log_line::LogLine;
-use crate::logged::{Identity, Log, Names};
-use crate::operations::{lacks_answer, read_operations};
+use crate::logged::{Identity, Log, Names, Version};
+use crate::operations::{lacks_answer, read_operations, read_versions};
 use crate::shown::Label;
 use crate::spot::{Spot, column_of};
 use crate::symbols::Symbols;
@@ -47,6 +47,8 @@ pub(crate) struct Draft {
     pub lines: Vec<u64>,
     pub symbols: Symbols,
     pub rows_line: u64,
+    /// The version numbers of writes, each with the place of its operation for its key.
+    pub versions: Vec<Version>,
 }
 
 impl Draft {
@@ -63,6 +65,7 @@ impl Draft {
             lines: Vec::new(alloc),
             symbols: Symbols::new(alloc),
             rows_line: 0,
+            versions: Vec::new(alloc),
         }
     }
 
@@ -387,6 +390,8 @@ fn add_one(
         → Gives result LogFault.NoMemory (λ _. AddsTransaction draft.old draft.new t) }
 {
     let transaction = transaction_in(alloc, line, object, lacking, &mut draft.symbols)?;
+    let place = draft.history.transactions.len();
+    read_versions(line, object, place, &mut draft.versions)?;
     draft.history.transactions.push(transaction)?;
     Ok(draft.names.add(who)?)
 }

@@ -1,133 +1,12 @@
 //! An anomaly in words.
-use hek_history::{Need, Writer};
+use hek_anomalies::{Anomaly, Cause, CycleEdge, EdgeKind, Evidence, OwnFault, Sighting, Told};
 use hek_history_log::{Label, Log};
-use hek_history_search::{
-    Anomaly, Cause, CycleEdge, EdgeKind, Evidence, OwnFault, Reason, Sighting,
-};
+use hek_levels::{Need, Writer};
+use hek_report::put;
 use hek_rules::NoMemory;
 use std::alloc::{AllocError, Global};
 use std::fmt;
-
-/// The name of an anomaly, with its sign in the literature if it has one.
-pub fn anomaly_name(anomaly: Anomaly) -> &'static str {
-    match anomaly {
-        Anomaly::DirtyWrite => "dirty write (G0)",
-        Anomaly::AbortedRead => "aborted read (G1a)",
-        Anomaly::IntermediateRead => "intermediate read (G1b)",
-        Anomaly::UnwrittenRead => "a value that nobody wrote",
-        Anomaly::LaterWriteRead => "read of its own later write",
-        Anomaly::CircularInformationFlow => "circular information flow (G1c)",
-        Anomaly::InsertThatExists => "insert that exists",
-        Anomaly::LostUpdate => "lost update",
-        Anomaly::ReadSkew => "read skew (G-single)",
-        Anomaly::SingleAntiDependency => "G-single",
-        Anomaly::WriteSkew => "write skew (G2-item)",
-        Anomaly::ReadOnlyAnomaly => "read-only anomaly (G2-item)",
-        Anomaly::Phantom => "phantom (G2)",
-        Anomaly::LongFork => "long fork (G-nonadjacent)",
-        Anomaly::Nonadjacent => "G-nonadjacent",
-        Anomaly::AntiDependencyCycle => "G2-item",
-        other => other_name(other),
-    }
-}
-
-/// The name of an anomaly of times, of one transaction, or of no cycle.
-fn other_name(anomaly: Anomaly) -> &'static str {
-    match anomaly {
-        Anomaly::StaleRead => "stale read (real time)",
-        Anomaly::AgainstRealTime => "against real time",
-        Anomaly::AgainstTimes => "against begin and end",
-        Anomaly::NonRepeatableRead => "non-repeatable read",
-        Anomaly::PhantomWithin => "phantom in one transaction",
-        Anomaly::OwnWriteLost => "own write lost",
-        Anomaly::OwnAnswers => "the answers of one transaction contradict each other",
-        Anomaly::NoSource => "a read of no writer",
-        _ => "no order of writes",
-    }
-}
-
-/// What anomalies are called in counts: one of them, and several.
-const COUNTED: [(Anomaly, &str, &str); 25] = [
-    (Anomaly::DirtyWrite, "dirty write", "dirty writes"),
-    (Anomaly::AbortedRead, "aborted read", "aborted reads"),
-    (
-        Anomaly::IntermediateRead,
-        "intermediate read",
-        "intermediate reads",
-    ),
-    (
-        Anomaly::UnwrittenRead,
-        "value that nobody wrote",
-        "values that nobody wrote",
-    ),
-    (
-        Anomaly::LaterWriteRead,
-        "read of its own later write",
-        "reads of their own later writes",
-    ),
-    (
-        Anomaly::CircularInformationFlow,
-        "circular information flow",
-        "circular information flows",
-    ),
-    (
-        Anomaly::InsertThatExists,
-        "insert that exists",
-        "inserts that exist",
-    ),
-    (Anomaly::LostUpdate, "lost update", "lost updates"),
-    (Anomaly::ReadSkew, "read skew", "read skews"),
-    (Anomaly::SingleAntiDependency, "G-single", "G-single"),
-    (Anomaly::WriteSkew, "write skew", "write skews"),
-    (
-        Anomaly::ReadOnlyAnomaly,
-        "read-only anomaly",
-        "read-only anomalies",
-    ),
-    (Anomaly::Phantom, "phantom", "phantoms"),
-    (Anomaly::LongFork, "long fork", "long forks"),
-    (Anomaly::Nonadjacent, "G-nonadjacent", "G-nonadjacent"),
-    (Anomaly::AntiDependencyCycle, "G2-item", "G2-item"),
-    (Anomaly::StaleRead, "stale read", "stale reads"),
-    (
-        Anomaly::AgainstRealTime,
-        "cycle against real time",
-        "cycles against real time",
-    ),
-    (
-        Anomaly::AgainstTimes,
-        "cycle against begin and end",
-        "cycles against begin and end",
-    ),
-    (
-        Anomaly::NonRepeatableRead,
-        "non-repeatable read",
-        "non-repeatable reads",
-    ),
-    (
-        Anomaly::PhantomWithin,
-        "phantom in one transaction",
-        "phantoms in one transaction",
-    ),
-    (Anomaly::OwnWriteLost, "own write lost", "own writes lost"),
-    (Anomaly::OwnAnswers, "scan at fault", "scans at fault"),
-    (Anomaly::NoSource, "read of no writer", "reads of no writer"),
-    (
-        Anomaly::NoOrder,
-        "no order of writes",
-        "times no order of writes",
-    ),
-];
-
-/// What so many anomalies are called in counts.
-pub fn counted_name(anomaly: Anomaly, count: u64) -> &'static str {
-    for (one, single, several) in COUNTED {
-        if one == anomaly {
-            return if count == 1 { single } else { several };
-        }
-    }
-    "anomalies"
-}
+use std::io::Write;
 
 /// The word of an edge's kind in JSON.
 pub(crate) fn kind_word(kind: EdgeKind) -> &'static str {
@@ -135,10 +14,8 @@ pub(crate) fn kind_word(kind: EdgeKind) -> &'static str {
         EdgeKind::Read => "wr",
         EdgeKind::Overwritten => "rw",
         EdgeKind::Version => "ww",
-        EdgeKind::FirstCommitter => "first-committer",
-        EdgeKind::Time => "time",
+        EdgeKind::Session => "session",
         EdgeKind::RealTime => "real",
-        EdgeKind::Cases => "cases",
         EdgeKind::Own(_) => "own",
     }
 }
@@ -149,15 +26,15 @@ pub(crate) fn evidence_word(evidence: Evidence) -> &'static str {
         Evidence::Answer => "answer",
         Evidence::SameVersion => "same version",
         Evidence::Seen(_) => "another answer",
+        Evidence::Versions => "version numbers",
         Evidence::EndTimes => "end times",
-        Evidence::Path(_) => "reasons",
-        Evidence::Steps => "steps",
+        Evidence::Turns => "turns",
     }
 }
 
 /// A transaction by its name, or the opening rows.
 #[derive(Clone, Copy)]
-pub(crate) enum Who<'a> {
+enum Who<'a> {
     Opening,
     Transaction(Label<'a>),
 }
@@ -171,320 +48,263 @@ impl fmt::Display for Who<'_> {
     }
 }
 
-/// The name of a writer of the log.
-pub(crate) fn writer_name(log: &Log, writer: Writer) -> Who<'_> {
-    match writer {
-        Writer::Opening => Who::Opening,
-        Writer::Transaction(place) => Who::Transaction(log.name(place)),
-    }
+/// Tells what keeps a log from a level, by the names, keys and values of the log.
+#[derive(Clone, Copy)]
+pub struct Teller<'a> {
+    pub alloc: Global,
+    pub log: &'a Log,
 }
 
-/// What a reader found at a key.
-fn reading_words(
-    alloc: Global,
-    log: &Log,
-    reader: Writer,
-    key: Label<'_>,
-    need: Need,
-) -> Result<String, AllocError> {
-    let reader = writer_name(log, reader);
-    let found = found_words(alloc, log, key, need)?;
-    format!(in alloc; "{reader} {found}")
-}
+/// How many writers of a read are named at most.
+const MOST_NAMED: usize = 6;
 
-/// What was found at a key, without who found it.
-fn found_words(alloc: Global, log: &Log, key: Label<'_>, need: Need) -> Result<String, AllocError> {
-    match need {
-        Need::Anything => format!(in alloc; "looked at {key}"),
-        Need::Absent => format!(in alloc; "found {key} absent"),
-        Need::Present => format!(in alloc; "found that {key} is there"),
-        Need::Value(value) => {
-            let value = log.value(value);
-            format!(in alloc; "read {key} = {value}")
+impl<'a> Teller<'a> {
+    /// The name of a writer.
+    fn name(self, writer: Writer) -> Who<'a> {
+        match writer {
+            Writer::Opening => Who::Opening,
+            Writer::Transaction(place) => Who::Transaction(self.log.name(place)),
         }
     }
 }
 
-/// Why the first of an edge is before the second.
-pub fn edge_words(
-    alloc: Global,
-    log: &Log,
-    anomaly: Anomaly,
-    edge: CycleEdge,
-) -> Result<String, AllocError> {
-    let first = writer_name(log, edge.first);
-    let second = writer_name(log, edge.second);
-    match (edge.kind, edge.key) {
-        (EdgeKind::Own(fault), _) => own_words(alloc, log, second, fault),
-        (EdgeKind::Time, _) => format!(in alloc; "{first} is before {second} by begin and end"),
-        (EdgeKind::RealTime, _) => {
-            format!(in alloc; "{first} was answered before {second} was invoked")
-        }
-        (EdgeKind::Cases, _) | (_, None) => {
-            format!(in alloc; "{second} before {first} comes to a contradiction")
-        }
-        (EdgeKind::Version, Some(key)) => version_words(alloc, log, edge, log.key(key)),
-        (EdgeKind::FirstCommitter, Some(key)) => {
-            let key = log.key(key);
-            format!(in alloc; "{first} began before {second} committed, and both wrote {key}")
-        }
-        (EdgeKind::Read, Some(key)) => read_words(alloc, log, anomaly, edge, log.key(key)),
-        (EdgeKind::Overwritten, Some(key)) => {
-            let words = overwritten_words(alloc, log, edge, log.key(key))?;
-            with_evidence(alloc, log, edge, words)
-        }
-    }
-}
-
-/// Why the first of an edge is before the second, where both wrote a key.
-fn version_words(
-    alloc: Global,
-    log: &Log,
-    edge: CycleEdge,
-    key: Label<'_>,
-) -> Result<String, AllocError> {
-    let first = writer_name(log, edge.first);
-    let second = writer_name(log, edge.second);
-    match edge.evidence {
-        Evidence::Seen(seen) => {
-            let saw = sighting_words(alloc, log, seen)?;
-            let found = found_words(alloc, log, key, edge.read.unwrap_or(Need::Anything))?;
-            format!(in alloc;
-                "{first} wrote {key} before {second}: {saw} of {first}, and {found} of {second}"
-            )
-        }
-        Evidence::Path(reader) => {
-            let found = found_words(alloc, log, key, edge.read.unwrap_or(Need::Anything))?;
-            let reader = log.name(reader);
-            format!(in alloc;
-                "{first} wrote {key} before {second}: {reader}, which is after {first}, {found} of {second}"
-            )
-        }
-        _ => format!(in alloc; "{second} wrote {key} after {first}"),
-    }
-}
-
-/// What a transaction found beside.
-fn sighting_words(alloc: Global, log: &Log, seen: Sighting) -> Result<String, AllocError> {
-    reading_words(
-        alloc,
-        log,
-        Writer::Transaction(seen.reader),
-        log.key(seen.key),
-        seen.read,
-    )
-}
-
-/// The words of a read that was written over, with what shows that.
-fn with_evidence(
-    alloc: Global,
-    log: &Log,
-    edge: CycleEdge,
-    words: String,
-) -> Result<String, AllocError> {
-    let second = writer_name(log, edge.second);
-    let source = writer_name(log, edge.source.unwrap_or(Writer::Opening));
-    match edge.evidence {
-        Evidence::Seen(seen) => {
-            let saw = sighting_words(alloc, log, seen)?;
-            format!(in alloc; "{words} ({saw}, and {source} wrote both)")
-        }
-        Evidence::Path(_) => format!(in alloc;
-            "{words} ({source} wrote that, and is before {second})"
-        ),
-        _ => Ok(words),
-    }
-}
-
-/// Why the first of an edge is before the second, where the second read what the first wrote.
-fn read_words(
-    alloc: Global,
-    log: &Log,
-    anomaly: Anomaly,
-    edge: CycleEdge,
-    key: Label<'_>,
-) -> Result<String, AllocError> {
-    let need = edge.read.unwrap_or(Need::Anything);
-    let reading = reading_words(alloc, log, edge.second, key, need)?;
-    let writer = writer_name(log, edge.first);
-    match (anomaly, edge.first, need) {
-        (Anomaly::UnwrittenRead, _, Need::Absent) => {
-            format!(in alloc; "{reading}, which nobody deleted")
-        }
-        (Anomaly::UnwrittenRead, _, _) => format!(in alloc; "{reading}, which nobody wrote"),
-        (Anomaly::LaterWriteRead, _, _) => {
-            format!(in alloc; "{reading}, which only it wrote, and that later")
-        }
-        (Anomaly::NoSource, _, _) => format!(in alloc;
-            "{reading}: each writer of it is after the read, or was overwritten before it"
-        ),
-        (Anomaly::AbortedRead, _, _) => {
-            format!(in alloc; "{reading}, written by {writer}, which aborted")
-        }
-        (Anomaly::IntermediateRead, _, _) => {
-            format!(in alloc; "{reading}, which {writer} wrote over itself")
-        }
-        (_, Writer::Opening, _) => format!(in alloc; "{reading}, as at the opening"),
-        (_, _, Need::Absent) => format!(in alloc; "{reading}, which {writer} deleted"),
-        _ => format!(in alloc; "{reading}, which {writer} wrote"),
-    }
-}
-
-/// Why the first of an edge is before the second, where the second wrote over what the first read.
-fn overwritten_words(
-    alloc: Global,
-    log: &Log,
-    edge: CycleEdge,
-    key: Label<'_>,
-) -> Result<String, AllocError> {
-    let need = edge.read.unwrap_or(Need::Anything);
-    let reading = reading_words(alloc, log, edge.first, key, need)?;
-    let writer = writer_name(log, edge.second);
-    match (edge.written, need) {
-        (Some(Some(value)), Need::Absent) => {
-            let value = log.value(value);
-            format!(in alloc; "{reading}, and {writer} set it to {value}")
-        }
-        (Some(Some(value)), _) => {
-            let value = log.value(value);
-            format!(in alloc; "{reading}, which {writer} overwrote with {value}")
-        }
-        (Some(None), _) => format!(in alloc; "{reading}, which {writer} deleted"),
-        (None, _) => format!(in alloc; "{reading}, which {writer} overwrote"),
-    }
-}
-
-/// How a transaction's own answers contradict each other. Operations are numbered from 1.
-fn own_words(
-    alloc: Global,
-    log: &Log,
-    owner: Who<'_>,
-    fault: OwnFault,
-) -> Result<String, AllocError> {
-    match fault {
-        OwnFault::Contradicted {
-            operation,
-            key,
-            left,
-            found,
-        } => {
-            let number = operation.saturating_add(1);
-            let key = log.key(key);
-            let found = found_words(alloc, log, key, found)?;
-            match left {
-                None => format!(in alloc;
-                    "{owner} deleted {key}, and then {found} (operation {number})"
-                ),
-                Some(value) => {
-                    let value = log.value(value);
-                    format!(in alloc;
-                        "{owner} wrote {key} = {value}, and then {found} (operation {number})"
-                    )
-                }
+/// What answers tell, and why one transaction is before another.
+impl Teller<'_> {
+    /// What was found at a key, without who found it.
+    fn found(self, key: u64, need: Need) -> Result<String, AllocError> {
+        let key = self.log.key(key);
+        match need {
+            Need::Absent => format!(in self.alloc; "found {key} absent"),
+            Need::Present => format!(in self.alloc; "found that {key} is there"),
+            Need::Value(value) => {
+                let value = self.log.value(value);
+                format!(in self.alloc; "read {key} = {value}")
             }
         }
-        OwnFault::Disagree {
-            first,
-            second,
-            key,
-            before,
-            after,
-            ..
-        } => {
-            let first = first.saturating_add(1);
-            let second = second.saturating_add(1);
-            let key = log.key(key);
-            let before = found_words(alloc, log, key, before)?;
-            let after = found_words(alloc, log, key, after)?;
-            format!(in alloc;
-                "{owner} {before} (operation {first}), and then {after} (operation {second})"
-            )
+    }
+
+    /// What a reader found at a key.
+    fn reading(self, reader: Writer, key: u64, need: Need) -> Result<String, AllocError> {
+        let reader = self.name(reader);
+        let found = self.found(key, need)?;
+        format!(in self.alloc; "{reader} {found}")
+    }
+
+    /// What a transaction found beside.
+    fn sighting(self, seen: Sighting) -> Result<String, AllocError> {
+        self.reading(Writer::Transaction(seen.reader), seen.key, seen.read)
+    }
+
+    /// What a read found, and who may have written that.
+    pub(crate) fn told(self, told: &Told) -> Result<String, AllocError> {
+        let found = self.reading(Writer::Transaction(told.reader), told.key, told.need)?;
+        let mut words = format!(in self.alloc; "{found}: of ")?;
+        for (place, writer) in told.writers.iter().enumerate() {
+            if place >= MOST_NAMED {
+                words.push_str(" or others")?;
+                break;
+            }
+            let name = self.name(*writer);
+            let or = if place == 0 { "" } else { " or " };
+            words = format!(in self.alloc; "{words}{or}{name}")?;
         }
-        OwnFault::Unordered { operation } => {
-            let number = operation.saturating_add(1);
-            format!(in alloc; "operation {number} of {owner} has a key twice")
-        }
-        OwnFault::Outside { operation, key } => {
-            let number = operation.saturating_add(1);
-            let key = log.key(key);
-            format!(in alloc; "operation {number} of {owner} is a scan that {key} is not in")
+        Ok(words)
+    }
+
+    /// Why the first of an edge is before the second.
+    pub(crate) fn edge(self, anomaly: Anomaly, edge: CycleEdge) -> Result<String, AllocError> {
+        let first = self.name(edge.first);
+        let second = self.name(edge.second);
+        match (edge.kind, edge.key) {
+            (EdgeKind::Own(fault), _) => self.own_fault(edge.second, fault),
+            (EdgeKind::Session, _) => {
+                format!(in self.alloc; "{first} is before {second} in their session")
+            }
+            (EdgeKind::RealTime, _) | (_, None) => {
+                format!(in self.alloc; "{first} was answered before {second} was invoked")
+            }
+            (EdgeKind::Version, Some(key)) => self.version(edge, key),
+            (EdgeKind::Read, Some(key)) => self.read(anomaly, edge, key),
+            (EdgeKind::Overwritten, Some(key)) => {
+                let words = self.overwritten(edge, key)?;
+                self.with_evidence(edge, words)
+            }
         }
     }
-}
 
-/// The lines of a cycle: each edge in words, and in a column after them which transaction is before which; below an edge, further in, those
-/// from which it follows.
-pub fn cycle_lines(alloc: Global, log: &Log, cause: &Cause) -> Result<Vec<String>, NoMemory> {
-    let mut texts = Vec::new(alloc);
-    let mut edges = Vec::new(alloc);
-    gather_texts(alloc, log, cause, &mut texts, &mut edges)?;
-    let width = widest(texts.as_slice());
-    let mut lines = Vec::with_capacity(alloc, texts.len())?;
-    for (text, edge) in texts.iter().zip(edges.iter()) {
-        let line = if cause.cycle.len() == 1 {
-            format!(in alloc; "  {text}")?
-        } else {
-            cycle_line(alloc, log, text.as_str(), width, *edge)?
+    /// Why the first of an edge is before the second, where both wrote a key.
+    fn version(self, edge: CycleEdge, key: u64) -> Result<String, AllocError> {
+        let first = self.name(edge.first);
+        let second = self.name(edge.second);
+        let name = self.log.key(key);
+        match (edge.evidence, edge.read) {
+            (Evidence::Seen(seen), Some(read)) => {
+                let saw = self.sighting(seen)?;
+                let found = self.found(key, read)?;
+                format!(in self.alloc;
+                    "{first} wrote {name} before {second}: {saw} of {first}, and {found} of {second}"
+                )
+            }
+            (Evidence::Versions, _) => {
+                format!(in self.alloc; "{second} wrote a later version of {name} than {first}")
+            }
+            _ => format!(in self.alloc; "{second} wrote {name} after {first}"),
+        }
+    }
+
+    /// The words of a read that was written over, with what shows that.
+    fn with_evidence(self, edge: CycleEdge, words: String) -> Result<String, AllocError> {
+        let source = self.name(edge.source.unwrap_or(Writer::Opening));
+        match edge.evidence {
+            Evidence::Seen(seen) => {
+                let saw = self.sighting(seen)?;
+                format!(in self.alloc; "{words} ({saw}, and {source} wrote both)")
+            }
+            Evidence::Versions => format!(in self.alloc; "{words} (a later version)"),
+            Evidence::Turns => format!(in self.alloc; "{words} ({source} wrote that before)"),
+            _ => Ok(words),
+        }
+    }
+
+    /// Why the first of an edge is before the second, where the second read what the first wrote.
+    fn read(self, anomaly: Anomaly, edge: CycleEdge, key: u64) -> Result<String, AllocError> {
+        let need = edge.read.unwrap_or(Need::Absent);
+        let reading = self.reading(edge.second, key, need)?;
+        let writer = self.name(edge.first);
+        let pattern = read_pattern(anomaly, edge.first, matches!(need, Need::Absent));
+        match pattern.split_once('@') {
+            Some((front, back)) => format!(in self.alloc; "{reading}, {front}{writer}{back}"),
+            None => format!(in self.alloc; "{reading}, {pattern}"),
+        }
+    }
+
+    /// Why the first of an edge is before the second, where the second wrote over what the first read.
+    fn overwritten(self, edge: CycleEdge, key: u64) -> Result<String, AllocError> {
+        let need = edge.read.unwrap_or(Need::Absent);
+        let reading = self.reading(edge.first, key, need)?;
+        let writer = self.name(edge.second);
+        let Some(Some(value)) = edge.written else {
+            let verb = if edge.written.is_some() {
+                "deleted"
+            } else {
+                "overwrote"
+            };
+            return format!(in self.alloc; "{reading}, which {writer} {verb}");
         };
-        lines.push(line)?;
+        let value = self.log.value(value);
+        match need {
+            Need::Absent => format!(in self.alloc; "{reading}, and {writer} set it to {value}"),
+            _ => format!(in self.alloc; "{reading}, which {writer} overwrote with {value}"),
+        }
     }
-    Ok(lines)
-}
 
-/// Adds the words of each edge, and of the reasons of each below it, further in.
-fn gather_texts(
-    alloc: Global,
-    log: &Log,
-    cause: &Cause,
-    texts: &mut Vec<String>,
-    edges: &mut Vec<CycleEdge>,
-) -> Result<(), NoMemory> {
-    for (place, edge) in cause.cycle.iter().enumerate() {
-        texts.push(edge_words(alloc, log, cause.anomaly, *edge)?)?;
-        edges.push(*edge)?;
-        for reason in cause.reasons.iter() {
-            if reason.place == place {
-                texts.push(reason_words(alloc, log, cause.anomaly, *reason)?)?;
-                edges.push(reason.edge)?;
+    /// What a transaction left at a key.
+    fn left(self, key: u64, left: Option<u64>) -> Result<String, AllocError> {
+        let key = self.log.key(key);
+        match left {
+            None => format!(in self.alloc; "deleted {key}"),
+            Some(value) => {
+                let value = self.log.value(value);
+                format!(in self.alloc; "wrote {key} = {value}")
             }
         }
     }
-    Ok(())
-}
 
-/// The words of a reason, as far in as it is deep.
-fn reason_words(
-    alloc: Global,
-    log: &Log,
-    anomaly: Anomaly,
-    reason: Reason,
-) -> Result<String, AllocError> {
-    let words = edge_words(alloc, log, anomaly, reason.edge)?;
-    let width = reason.depth.min(DEEPEST).saturating_mul(2);
-    format!(in alloc; "{:width$}{words}", "")
-}
-
-/// How many steps further in a reason stands at most.
-const DEEPEST: usize = 20;
-
-/// How many characters the longest of some texts has.
-fn widest(texts: &[String]) -> usize {
-    let mut width: usize = 0;
-    for text in texts {
-        width = width.max(text.as_str().chars().count());
+    /// How a transaction's own answers contradict each other. Operations are numbered from 1.
+    fn own_fault(self, owner: Writer, fault: OwnFault) -> Result<String, AllocError> {
+        let owner = self.name(owner);
+        let (earlier, operation) = fault.operations();
+        let earlier = earlier.unwrap_or(0).saturating_add(1);
+        let number = operation.saturating_add(1);
+        let (before, after) = match fault {
+            OwnFault::Contradicted {
+                key,
+                left,
+                found,
+                ..
+            } => (self.left(key, left)?, self.found(key, found)?),
+            OwnFault::Disagree {
+                key,
+                before,
+                after,
+                ..
+            } => {
+                let before = self.found(key, before)?;
+                let before = format!(in self.alloc; "{before} (operation {earlier})")?;
+                (before, self.found(key, after)?)
+            }
+            OwnFault::Unordered { .. } => {
+                return format!(in self.alloc; "operation {number} of {owner} has a key twice");
+            }
+            OwnFault::Outside { key, .. } => {
+                let key = self.log.key(key);
+                return format!(in self.alloc;
+                    "operation {number} of {owner} is a scan that {key} is not in"
+                );
+            }
+        };
+        format!(in self.alloc; "{owner} {before}, and then {after} (operation {number})")
     }
-    width
+
+    /// Appends the lines of what keeps a log from a level: each edge of a cycle in words, and in a column after them which transaction is
+    /// before which; below them the reads that show that transactions of unknown status took place. Where steps alone show it, from which
+    /// reads they start.
+    pub fn put_lines(self, cause: &Cause, lines: &mut Vec<u8>) -> Result<(), NoMemory> {
+        let mut texts = Vec::new(self.alloc);
+        let mut width: usize = 0;
+        for edge in cause.cycle.iter() {
+            let text = self.edge(cause.anomaly, *edge)?;
+            width = width.max(text.as_str().chars().count());
+            texts.push(text)?;
+        }
+        for (text, edge) in texts.iter().zip(cause.cycle.iter()) {
+            if cause.cycle.len() == 1 {
+                put(writeln!(lines, "  {text}"))?;
+            } else {
+                let text = text.as_str();
+                let first = self.name(edge.first);
+                let second = self.name(edge.second);
+                put(writeln!(lines, "  {text:<width$}    {first} before {second}"))?;
+            }
+        }
+        for edge in cause.shown.iter() {
+            let words = self.edge(cause.anomaly, *edge)?;
+            let taken = self.name(edge.first);
+            put(writeln!(lines, "  {taken} took place: {words}"))?;
+        }
+        self.put_steps_lines(cause, lines)
+    }
+
+    /// Appends the lines of what steps alone show.
+    fn put_steps_lines(self, cause: &Cause, lines: &mut Vec<u8>) -> Result<(), NoMemory> {
+        if cause.steps == 0 {
+            return Ok(());
+        }
+        let steps = cause.steps;
+        put(writeln!(lines, "  by {steps} steps, from these answers:"))?;
+        for told in cause.told.iter() {
+            let words = self.told(told)?;
+            put(writeln!(lines, "    {words}"))?;
+        }
+        Ok(())
+    }
 }
 
-/// A line of a cycle, with its first column of this width.
-fn cycle_line(
-    alloc: Global,
-    log: &Log,
-    text: &str,
-    width: usize,
-    edge: CycleEdge,
-) -> Result<String, AllocError> {
-    let first = writer_name(log, edge.first);
-    let second = writer_name(log, edge.second);
-    format!(in alloc; "  {text:<width$}    {first} before {second}")
+/// What is said of a read beside what it found, with `@` for the name of who wrote that.
+fn read_pattern(anomaly: Anomaly, writer: Writer, is_absent: bool) -> &'static str {
+    match (anomaly, writer, is_absent) {
+        (Anomaly::UnwrittenRead, _, true) => "which nobody deleted",
+        (Anomaly::UnwrittenRead, _, false) => "which nobody wrote",
+        (Anomaly::LaterWriteRead, _, _) => "which only it wrote, and that later",
+        (Anomaly::ReadOfContradiction, _, _) => {
+            "written by @, whose own answers contradict each other"
+        }
+        (Anomaly::AbortedRead, _, true) => "deleted by @, which aborted",
+        (Anomaly::AbortedRead, _, false) => "written by @, which aborted",
+        (Anomaly::IntermediateRead, _, true) => "which @ deleted, and then wrote again",
+        (Anomaly::IntermediateRead, _, false) => "which @ wrote over itself",
+        (_, Writer::Opening, _) => "as at the opening",
+        (_, _, true) => "which @ deleted",
+        _ => "which @ wrote",
+    }
 }

@@ -1,8 +1,9 @@
 //! Who comes before whom in a run, by the names of its schedule.
-use crate::anomaly_words::edge_words;
-use hek_history::{Need, Writer};
+use crate::anomaly_words::Teller;
+use crate::cycle::value_in;
+use hek_anomalies::{Cause, CycleEdge, EdgeKind};
 use hek_history_log::{Label, Log};
-use hek_history_search::{Cause, CycleEdge, EdgeKind};
+use hek_levels::Writer;
 use hek_rules::{NoMemory, Schedule, TxnId};
 use std::alloc::Global;
 
@@ -44,7 +45,7 @@ pub(crate) fn befores_of(
         let (Some(first), Some(second)) = (first, second) else {
             return Ok(None);
         };
-        let words = edge_words(alloc, log, cause.anomaly, *edge)?;
+        let words = Teller { alloc, log }.edge(cause.anomaly, *edge)?;
         befores.push(before_of(log, *edge, first, second, words))?;
     }
     Ok(Some(befores))
@@ -57,21 +58,15 @@ fn before_of(log: &Log, edge: CycleEdge, first: Side, second: Side, words: Strin
         second,
         kind: edge.kind,
         key: edge.key,
-        read: match edge.read {
-            Some(Need::Value(value)) => number_of(log.value(value)),
-            Some(Need::Anything | Need::Absent | Need::Present) | None => None,
-        },
-        written: match edge.written {
-            Some(Some(value)) => number_of(log.value(value)),
-            Some(None) | None => None,
-        },
+        read: number_of(log, value_in(edge.read)),
+        written: number_of(log, edge.written.unwrap_or(None)),
         words,
     }
 }
 
 /// A value of a run, which is a number.
-fn number_of(value: Label<'_>) -> Option<u64> {
-    match value {
+fn number_of(log: &Log, value: Option<u64>) -> Option<u64> {
+    match log.value(value?) {
         Label::Number(number) => Some(number),
         Label::Negative(_) | Label::Text(_) => None,
     }

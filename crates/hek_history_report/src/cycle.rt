@@ -1,52 +1,152 @@
 //! A cycle as JSON. The members of an edge are in the order of their names.
-use crate::anomaly_words::{edge_words, evidence_word, kind_word};
+use crate::anomaly_words::{Teller, evidence_word, kind_word};
 use crate::before::{Before, Side};
-use hek_history::{Need, Writer};
-use hek_history_log::{Label, Log};
-use hek_history_search::{Anomaly, Cause, CycleEdge, EdgeKind, Evidence, OwnFault};
+use hek_anomalies::{Anomaly, Cause, CycleEdge, EdgeKind, Evidence, OwnFault};
+use hek_history_log::Label;
+use hek_levels::{Need, Writer};
 use hek_report::Lines;
 use hek_rules::{NoMemory, Schedule};
-use std::alloc::Global;
 
-/// Puts the member `cycle` of a log: why one transaction is before another, edge by edge.
-pub fn put_cycle(alloc: Global, log: &Log, cause: &Cause, out: &mut Lines) -> Result<(), NoMemory> {
-    out.put_key("cycle");
-    out.begin_array();
-    for (place, edge) in cause.cycle.iter().enumerate() {
-        out.begin_object();
-        put_reading(log, *edge, out);
-        put_reasons(alloc, log, cause, place, out)?;
-        put_rest(alloc, log, cause.anomaly, *edge, out)?;
-        out.end_object();
+impl Teller<'_> {
+    /// Puts the member `cycle`: why one transaction is before another, edge by edge.
+    pub fn put_cycle(self, cause: &Cause, out: &mut Lines) -> Result<(), NoMemory> {
+        self.put_edges("cycle", cause.anomaly, cause.cycle.as_slice(), out)
     }
-    out.end_array();
-    Ok(())
-}
 
-/// Puts the member `reasons` of an edge that has some: those from which it follows, each with its depth.
-fn put_reasons(
-    alloc: Global,
-    log: &Log,
-    cause: &Cause,
-    place: usize,
-    out: &mut Lines,
-) -> Result<(), NoMemory> {
-    if !cause.reasons.iter().any(|reason| reason.place == place) {
-        return Ok(());
-    }
-    out.put_key("reasons");
-    out.begin_array();
-    for reason in cause.reasons.iter() {
-        if reason.place == place {
+    /// Puts the member `reads` where steps alone show an anomaly: the reads from which they start, with who may have written what they
+    /// found.
+    pub fn put_reads(self, cause: &Cause, out: &mut Lines) -> Result<(), NoMemory> {
+        if cause.steps == 0 {
+            return Ok(());
+        }
+        out.put_key("reads");
+        out.begin_array();
+        for one in cause.told.iter() {
+            let words = self.told(one)?;
             out.begin_object();
-            out.put_number("depth", reason.depth as u64);
-            put_reading(log, reason.edge, out);
-            put_rest(alloc, log, cause.anomaly, reason.edge, out)?;
+            self.put_writer("by", Writer::Transaction(one.reader), out);
+            put_label("key", self.log.key(one.key), out);
+            self.put_value("read", value_in(Some(one.need)), out);
+            out.put_text("words", words.as_str());
             out.end_object();
         }
+        out.end_array();
+        Ok(())
     }
+
+    /// Puts the members `steps`, where steps alone show an anomaly, and `took_place`, the reads that show that transactions of unknown
+    /// status took place, if there are some.
+    pub fn put_steps(self, cause: &Cause, out: &mut Lines) -> Result<(), NoMemory> {
+        if cause.steps > 0 {
+            out.put_number("steps", cause.steps as u64);
+        }
+        if cause.shown.is_empty() {
+            return Ok(());
+        }
+        self.put_edges("took_place", cause.anomaly, cause.shown.as_slice(), out)
+    }
+
+    /// Puts a member with edges.
+    fn put_edges(
+        self,
+        name: &str,
+        anomaly: Anomaly,
+        edges: &[CycleEdge],
+        out: &mut Lines,
+    ) -> Result<(), NoMemory> {
+        out.put_key(name);
+        out.begin_array();
+        for edge in edges {
+            let words = self.edge(anomaly, *edge)?;
+            self.put_edge(anomaly, *edge, words.as_str(), out);
+        }
+        out.end_array();
+        Ok(())
+    }
+
+    /// Puts the object of an edge, with its reasons in words.
+    fn put_edge(self, anomaly: Anomaly, edge: CycleEdge, words: &str, out: &mut Lines) {
+        out.begin_object();
+        if !matches!(anomaly, Anomaly::UnwrittenRead | Anomaly::LaterWriteRead) {
+            self.put_writer("from", edge.first, out);
+        }
+        match edge.key {
+            Some(key) => put_label("key", self.log.key(key), out),
+            None => out.put_null("key"),
+        }
+        out.put_text("kind", kind_word(edge.kind));
+        if let EdgeKind::Own(fault) = edge.kind {
+            put_operations(fault, out);
+        }
+        self.put_value("read", value_in(edge.read), out);
+        self.put_evidence(edge, out);
+        self.put_writer("to", edge.second, out);
+        out.put_text("words", words);
+        self.put_value("written", edge.written.unwrap_or(None), out);
+        out.end_object();
+    }
+
+    /// The members of an edge about what shows it: `seen` where another answer does, `shown`, and `source`, who wrote what was read.
+    fn put_evidence(self, edge: CycleEdge, out: &mut Lines) {
+        if let Evidence::Seen(seen) = edge.evidence {
+            out.put_key("seen");
+            out.begin_object();
+            self.put_writer("by", Writer::Transaction(seen.reader), out);
+            put_label("key", self.log.key(seen.key), out);
+            self.put_value("read", value_in(Some(seen.read)), out);
+            self.put_writer("source", seen.writer, out);
+            out.end_object();
+        }
+        out.put_text("shown", evidence_word(edge.evidence));
+        if let Some(source) = edge.source {
+            self.put_writer("source", source, out);
+        }
+    }
+
+    /// A value, or null.
+    fn put_value(self, name: &str, value: Option<u64>, out: &mut Lines) {
+        match value {
+            Some(value) => put_label(name, self.log.value(value), out),
+            None => out.put_null(name),
+        }
+    }
+
+    /// The name of a transaction, or null for the opening.
+    fn put_writer(self, name: &str, writer: Writer, out: &mut Lines) {
+        match writer {
+            Writer::Opening => out.put_null(name),
+            Writer::Transaction(place) => put_label(name, self.log.name(place), out),
+        }
+    }
+}
+
+/// The value that an answer tells of, if it does.
+pub(crate) fn value_in(need: Option<Need>) -> Option<u64> {
+    match need {
+        Some(Need::Value(value)) => Some(value),
+        Some(Need::Absent | Need::Present) | None => None,
+    }
+}
+
+/// The member `operations` of a transaction's own answers: their numbers, from 1.
+fn put_operations(fault: OwnFault, out: &mut Lines) {
+    let (first, second) = fault.operations();
+    out.put_key("operations");
+    out.begin_array();
+    if let Some(first) = first {
+        out.write_number(first.saturating_add(1) as u64);
+    }
+    out.write_number(second.saturating_add(1) as u64);
     out.end_array();
-    Ok(())
+}
+
+/// A number or a text of a log.
+fn put_label(name: &str, label: Label<'_>, out: &mut Lines) {
+    match label {
+        Label::Number(number) => out.put_number(name, number),
+        Label::Negative(number) => out.put_negative(name, number),
+        Label::Text(text) => out.put_text(name, text),
+    }
 }
 
 /// Puts the member `cycle` of a run.
@@ -57,99 +157,6 @@ pub(crate) fn put_befores(schedule: &Schedule, befores: &[Before], out: &mut Lin
         put_before(schedule, before, out);
     }
     out.end_array();
-}
-
-/// The members of an edge after what was read, and its reasons.
-fn put_rest(
-    alloc: Global,
-    log: &Log,
-    anomaly: Anomaly,
-    edge: CycleEdge,
-    out: &mut Lines,
-) -> Result<(), NoMemory> {
-    let words = edge_words(alloc, log, anomaly, edge)?;
-    put_evidence(log, edge, out);
-    put_writer("to", log, edge.second, out);
-    out.put_text("words", words.as_str());
-    match edge.written {
-        Some(Some(value)) => put_label("written", Some(log.value(value)), out),
-        Some(None) | None => put_label("written", None, out),
-    }
-    Ok(())
-}
-
-/// The members of an edge up to what was read.
-fn put_reading(log: &Log, edge: CycleEdge, out: &mut Lines) {
-    put_writer("from", log, edge.first, out);
-    match edge.key {
-        Some(key) => put_label("key", Some(log.key(key)), out),
-        None => put_label("key", None, out),
-    }
-    out.put_text("kind", kind_word(edge.kind));
-    if let EdgeKind::Own(fault) = edge.kind {
-        put_operations(fault, out);
-    }
-    put_need(edge.read, log, out);
-}
-
-/// The member `operations` of a transaction's own answers: their numbers, from 1.
-fn put_operations(fault: OwnFault, out: &mut Lines) {
-    let (first, second) = fault.operations();
-    let second = second.saturating_add(1) as u64;
-    match first {
-        Some(first) => {
-            let first = first.saturating_add(1) as u64;
-            out.put_numbers("operations", &[first, second]);
-        }
-        None => out.put_numbers("operations", &[second]),
-    }
-}
-
-/// The members of an edge about what shows it: `reader` where a path does, `seen` where another answer does, `shown`, and `source`, who
-/// wrote what was read.
-fn put_evidence(log: &Log, edge: CycleEdge, out: &mut Lines) {
-    if let Evidence::Path(reader) = edge.evidence {
-        put_writer("reader", log, Writer::Transaction(reader), out);
-    }
-    if let Evidence::Seen(seen) = edge.evidence {
-        out.put_key("seen");
-        out.begin_object();
-        put_writer("by", log, Writer::Transaction(seen.reader), out);
-        put_label("key", Some(log.key(seen.key)), out);
-        put_need(Some(seen.read), log, out);
-        put_writer("source", log, seen.writer, out);
-        out.end_object();
-    }
-    out.put_text("shown", evidence_word(edge.evidence));
-    if let Some(source) = edge.source {
-        put_writer("source", log, source, out);
-    }
-}
-
-/// The member `read`: a value, or null.
-fn put_need(need: Option<Need>, log: &Log, out: &mut Lines) {
-    match need {
-        Some(Need::Value(value)) => put_label("read", Some(log.value(value)), out),
-        _ => put_label("read", None, out),
-    }
-}
-
-/// The name of a transaction, or null for the opening.
-fn put_writer(name: &str, log: &Log, writer: Writer, out: &mut Lines) {
-    match writer {
-        Writer::Opening => put_label(name, None, out),
-        Writer::Transaction(place) => put_label(name, Some(log.name(place)), out),
-    }
-}
-
-/// A number or a text of a log, or null.
-fn put_label(name: &str, label: Option<Label<'_>>, out: &mut Lines) {
-    match label {
-        None => out.put_null(name),
-        Some(Label::Number(number)) => out.put_number(name, number),
-        Some(Label::Negative(number)) => out.put_negative(name, number),
-        Some(Label::Text(text)) => out.put_text(name, text),
-    }
 }
 
 /// The object of an edge of a run.

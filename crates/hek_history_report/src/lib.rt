@@ -7,13 +7,10 @@ mod before;
 mod cycle;
 mod printing;
 mod together;
-mod turned;
 
-pub use anomaly_words::{anomaly_name, counted_name, cycle_lines};
+pub use anomaly_words::Teller;
 pub use before::{Before, Side};
-pub use cycle::put_cycle;
 pub use printing::{
     put_details, put_members, put_phrase, put_short, put_verdict, put_word, verdict_word,
 };
 pub use together::{Together, together_of};
-pub use turned::turn;

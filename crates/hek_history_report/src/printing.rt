@@ -1,9 +1,8 @@
 //! Whether transactions can follow one another, as text and as JSON.
-use crate::anomaly_words::anomaly_name;
 use crate::before::{Before, Side};
 use crate::cycle::put_befores;
 use crate::together::Together;
-use hek_history_search::Anomaly;
+use hek_anomalies::Anomaly;
 use hek_report::{Lines, put_name};
 use hek_rules::{NoMemory, Schedule, TxnId};
 use hek_serial::Serializability;
@@ -114,7 +113,7 @@ fn put_edges(
     lines: &mut Vec<u8>,
 ) -> Result<(), NoMemory> {
     if befores.len() < 2 {
-        lines.extend_from_slice(anomaly_name(anomaly).as_bytes())?;
+        lines.extend_from_slice(anomaly.name().as_bytes())?;
         return Ok(());
     }
     for (place, before) in befores.iter().enumerate() {
@@ -142,7 +141,7 @@ pub fn put_members(schedule: &Schedule, together: &Together, out: &mut Lines) {
     match together {
         Together::InAnotherOrder(order) => out.put_names("order", schedule, order.as_slice()),
         Together::NotSerial(anomaly, befores) => {
-            out.put_text("anomaly", anomaly_name(*anomaly));
+            out.put_text("anomaly", anomaly.name());
             put_befores(schedule, befores.as_slice(), out);
         }
         Together::ByEndTime | Together::Unknown => {}

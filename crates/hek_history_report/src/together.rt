@@ -1,9 +1,9 @@
 //! Whether the committed transactions of a run can follow one another, and if so in which order, and if not, why not.
 use crate::before::{Before, befores_of, named};
-use crate::turned::turn;
-use hek_history::{Level, Order, Point};
+use hek_anomalies::Anomaly;
 use hek_history_log::{Log, LogFault, read_log, write_run};
-use hek_history_search::{Anomaly, Cause, Verdict, judge};
+use hek_ladder::{Binding, Finding, Levels, Promise, Scene, ask, causes_of, order_of};
+use hek_levels_search::Shown;
 use hek_rules::{
     Level as RunLevel, NoMemory, Reply, Schedule, Transcript, TxnId, Verdict as Checked,
 };
@@ -46,34 +46,50 @@ fn searched(
     transcript: &Transcript,
 ) -> Result<Together, NoMemory> {
     match log_of(alloc, schedule, transcript)? {
-        Some(log) => judged(alloc, schedule, &log, committed_in(transcript)),
+        Some(log) => {
+            let scene = Scene::new(alloc, log, Levels::All, BY_END_TIME, EFFORT)?;
+            judged(alloc, schedule, &scene, committed_in(transcript))
+        }
         None => Ok(Together::Unknown),
     }
 }
+
+/// Those that write one key come in the order of their end times.
+const BY_END_TIME: Binding = Binding {
+    versions: true,
+    real: false,
+    sessions: false,
+};
 
 /// What the search over a log finds, given how many commits the run has.
 fn judged(
     alloc: Global,
     schedule: &Schedule,
-    log: &Log,
+    scene: &Scene,
     committed: usize,
 ) -> Result<Together, NoMemory> {
-    match judge(alloc, &log.history, Order::Versions, EFFORT)? {
-        Verdict::Serial(points) => ordered(alloc, schedule, log, points.as_slice(), committed),
-        Verdict::NotSerial(_steps, cause) => refuted(alloc, schedule, log, cause),
-        Verdict::Unknown(_) => Ok(Together::Unknown),
+    let found = ask(scene, Promise::Serializable)?;
+    match &found {
+        Finding::Holds(shown) => ordered(alloc, schedule, scene, shown, committed),
+        Finding::Fails(_) | Finding::Lost(_, _) => refuted(alloc, schedule, scene, &found),
+        Finding::Unknown(_) => Ok(Together::Unknown),
     }
 }
 
-/// The order of points, if each commit of the run has one.
+/// The order of an explanation, if each commit of the run has a place in it.
 fn ordered(
     alloc: Global,
     schedule: &Schedule,
-    log: &Log,
-    points: &[Point],
+    scene: &Scene,
+    shown: &Shown,
     committed: usize,
 ) -> Result<Together, NoMemory> {
-    let order = order_of(alloc, schedule, log, points)?;
+    let mut order = Vec::new(alloc);
+    for t in order_of(alloc, shown)?.iter() {
+        if let Some(txn) = named(schedule, scene.log.name(*t)) {
+            order.push(txn)?;
+        }
+    }
     if order.len() < committed {
         return Ok(Together::Unknown);
     }
@@ -84,12 +100,14 @@ fn ordered(
 fn refuted(
     alloc: Global,
     schedule: &Schedule,
-    log: &Log,
-    cause: Cause,
+    scene: &Scene,
+    found: &Finding,
 ) -> Result<Together, NoMemory> {
-    let mut cause = cause;
-    turn(&mut cause);
-    match befores_of(alloc, schedule, log, &cause)? {
+    let causes = causes_of(scene, Promise::Serializable, found, false)?;
+    let Some(cause) = causes.first() else {
+        return Ok(Together::Unknown);
+    };
+    match befores_of(alloc, schedule, &scene.log, cause)? {
         Some(befores) => Ok(Together::NotSerial(cause.anomaly, befores)),
         None => Ok(Together::Unknown),
     }
@@ -97,16 +115,13 @@ fn refuted(
 
 /// How many commits a transcript has: one of a transaction that never began is in no log.
 fn committed_in(transcript: &Transcript) -> usize {
-    let mut count: usize = 0;
-    for reply in transcript.replies() {
-        if matches!(reply, Reply::Committed) {
-            count = count.saturating_add(1);
-        }
-    }
-    count
+    let replies = transcript.replies().iter();
+    replies
+        .filter(|reply| matches!(reply, Reply::Committed))
+        .count()
 }
 
-/// The log of a run, with all its transactions serializable; None if it can't be read again.
+/// The log of a run; None if it can't be read again.
 fn log_of(
     alloc: Global,
     schedule: &Schedule,
@@ -116,31 +131,8 @@ fn log_of(
     write_run(alloc, schedule, transcript, &mut lines)?;
     let mut input = lines.as_slice();
     match read_log(alloc, &mut input) {
-        Ok(mut log) => {
-            for transaction in log.history.transactions.iter_mut() {
-                transaction.level = Level::Serializable;
-            }
-            Ok(Some(log))
-        }
+        Ok(log) => Ok(Some(log)),
         Err(LogFault::NoMemory) => Err(NoMemory),
         Err(_) => Ok(None),
     }
-}
-
-/// The transactions of points, in the order of their commits.
-fn order_of(
-    alloc: Global,
-    schedule: &Schedule,
-    log: &Log,
-    points: &[Point],
-) -> Result<Vec<TxnId>, NoMemory> {
-    let mut order = Vec::new(alloc);
-    for point in points {
-        if let Point::Commit(place) = *point {
-            if let Some(txn) = named(schedule, log.name(place)) {
-                order.push(txn)?;
-            }
-        }
-    }
-    Ok(order)
 }

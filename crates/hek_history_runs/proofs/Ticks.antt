@@ -15,7 +15,7 @@ use Rattle.hek_rules.specs.Walk.{apply_all}
 use Rattle.hek_rules.specs.Table.{Outcome, outcome, unchanged, prepare}
 use Rattle.hek_rules.specs.Run.{next, run, transcript, reply as reply_to}
 use Rattle.hek_rules.specs.Serial.{begin_drawn, begin_of, end_drawn, end_of, is_of}
-use Rattle.hek_history.proofs.Boxes.{front_at}
+use Rattle.hek_history.proofs.Fronts.{front_at}
 use Rattle.hek_laws.specs.Rows.{AreRising}
 use Rattle.hek_laws.proofs.Table.Unchanged.{apply_all-times}
 use Rattle.hek_laws.proofs.Table.Cases.{EachRule, each_event}

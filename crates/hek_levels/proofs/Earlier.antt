@@ -1,12 +1,10 @@
 -- Who is seen is earlier.
-use Rattle.std.proofs.Common.{◌≡◌, ℕ, ◌<◌, List, [], ◌∷◌, Some, inl, inr, arith}
+use Rattle.std.proofs.Common.{ℕ, ◌<◌, List, [], ◌∷◌, inl, inr, arith}
 use Rattle.hek_levels.specs.declared.log.Log.{Log}
-use Rattle.hek_levels.specs.declared.log.Read.{Read}
 use Rattle.hek_levels.specs.declared.rules.Rules.{Rules}
 use Rattle.hek_levels.specs.declared.rules.Links.{Links}
 use Rattle.hek_levels.specs.declared.rules.Own.{Own}
 use Rattle.hek_levels.specs.declared.rules.Own.TheVariants.{Nothing, Earlier, All}
-use Rattle.hek_levels.specs.Logs.{read_at}
 use Rattle.hek_levels.specs.Seen.{Explanation, At, TakesPlace, IsBefore, ReadsFrom, SeesByOwn, IsLinked, SeesFirst, Shows, SeesBy, Sees, IsOrdered}
 use Rattle.hek_levels.proofs.Orders.{takes, placed}
 
@@ -17,10 +15,10 @@ module _ (log : Log) (e : Explanation) (o : IsOrdered log e) where
   pub reads-earlier : (t x : ℕ) → TakesPlace e t → ReadsFrom log e t x → IsBefore e x t
   reads-earlier t x p r = o.back t r.0 r.1 x p r.2 r.3
 
-  pub own-earlier : (own : Own) (t r : ℕ) (read : Read) (n x : ℕ) → TakesPlace e t → read_at log t r ≡ Some read → SeesByOwn own log e t r n x → IsBefore e x t
-  own-earlier Nothing t r read n x p there s = absurd s
-  own-earlier Earlier t r read n x p there s = elim s [ inl same ↦ o.back t r read x p there same | inr b ↦ o.back t b.0 b.1 x p b.2 b.4 ]
-  own-earlier All t r read n x p there s = reads-earlier t x p s
+  pub own-earlier : (own : Own) (t n x : ℕ) → TakesPlace e t → SeesByOwn own log e t n x → IsBefore e x t
+  own-earlier Nothing t n x p s = absurd s
+  own-earlier Earlier t n x p s = o.back t s.0 s.1 x p s.2 s.4
+  own-earlier All t n x p s = reads-earlier t x p s
 
   pub linked-earlier : (links : Links) (t x : ℕ) → TakesPlace e t → IsLinked links log e t x → IsBefore e x t
   linked-earlier links t x p s =
@@ -37,11 +35,11 @@ module _ (log : Log) (e : Explanation) (o : IsOrdered log e) where
             ]
       ]
 
-  pub first-earlier : (rules : Rules) (t r : ℕ) (read : Read) (x : ℕ) → TakesPlace e t → read_at log t r ≡ Some read → SeesFirst rules log e t r read x → IsBefore e x t
-  first-earlier rules t r read x p there s =
+  pub first-earlier : (rules : Rules) (t n x : ℕ) → TakesPlace e t → SeesFirst rules log e t n x → IsBefore e x t
+  first-earlier rules t n x p s =
       elim s [
         | inl whole ↦ whole.1
-        | inr other ↦ elim other [ inl own ↦ own-earlier rules.own t r read read.operation x p there own | inr linked ↦ linked-earlier rules.first t x p linked ]
+        | inr other ↦ elim other [ inl own ↦ own-earlier rules.own t n x p own | inr linked ↦ linked-earlier rules.first t x p linked ]
       ]
 
   pub shows-earlier : (rules : Rules) (y x : ℕ) → TakesPlace e y → Shows rules log e y x → IsBefore e x y
@@ -51,14 +49,14 @@ module _ (log : Log) (e : Explanation) (o : IsOrdered log e) where
         | inr other ↦ elim other [ inl reads ↦ reads-earlier y x p reads.1 | inr linked ↦ linked-earlier rules.next y x p linked ]
       ]
 
-  pub seen_by-earlier : (rules : Rules) (t r : ℕ) (read : Read) → TakesPlace e t → read_at log t r ≡ Some read → (ys : List ℕ) (x : ℕ) → SeesBy rules log e t r read ys x → IsBefore e x t
-  seen_by-earlier rules t r read p there [] x s = first-earlier rules t r read x p there s
-  seen_by-earlier rules t r read p there (y ∷ ys) x s =
-      let later = seen_by-earlier rules t r read p there ys y s.1 in
+  pub seen_by-earlier : (rules : Rules) (t n : ℕ) → TakesPlace e t → (ys : List ℕ) (x : ℕ) → SeesBy rules log e t n ys x → IsBefore e x t
+  seen_by-earlier rules t n p [] x s = first-earlier rules t n x p s
+  seen_by-earlier rules t n p (y ∷ ys) x s =
+      let later = seen_by-earlier rules t n p ys y s.1 in
       before_trans e x y t (shows-earlier rules y x (takes e y t later p) s.0) later
 
-  pub seen-earlier : (rules : Rules) (t r : ℕ) (read : Read) (x : ℕ) → TakesPlace e t → read_at log t r ≡ Some read → Sees rules log e t r read x → IsBefore e x t
-  seen-earlier rules t r read x p there s = seen_by-earlier rules t r read p there s.0 x s.1
+  pub seen-earlier : (rules : Rules) (t n x : ℕ) → TakesPlace e t → Sees rules log e t n x → IsBefore e x t
+  seen-earlier rules t n x p s = seen_by-earlier rules t n p s.0 x s.1
 
   -- where it stands
   pub stands_before : (i j x t : ℕ) → At e.order i t → At e.order j x → IsBefore e x t → j < i

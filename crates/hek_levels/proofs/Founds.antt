@@ -1,5 +1,5 @@
 -- What an index of changes knows.
-use Rattle.std.proofs.Common.{◌≡◌, ◌==◌, ◌<◌, ℕ, zero, suc, true, false, Bool, cond, List, [], ◌∷◌, Option, Some, None, refl, ap, ◌∙◌, subst, inl, inr, arith}
+use Rattle.std.proofs.Common.{◌≡◌, ◌==◌, ℕ, zero, suc, true, false, Bool, cond, List, [], ◌∷◌, Option, Some, None, refl, ap, ◌∙◌, inl, inr, arith}
 use Rattle.std.specs.Prelude.{not, ◌&&◌, ◌||◌}
 use Rattle.std.proofs.lemmas.Bool.{cases_Bool, eqb-true}
 use Rattle.std.proofs.lemmas.Bool.Decides.{nat_tests}
@@ -9,7 +9,7 @@ use Rattle.hek_levels.specs.declared.log.Change.{Change}
 use Rattle.hek_levels.specs.declared.uncommitted.Who.{Who}
 use Rattle.hek_levels.specs.declared.uncommitted.Who.TheVariants.{One, Several}
 use Rattle.hek_levels.specs.Logs.{writes_of}
-use Rattle.hek_levels.specs.Uncommitted.{passing_of, does_meet, is_met_in, did_leave, did_other_leave, is_right, are_right, with_one, is_other, who_by, who_with, who_below}
+use Rattle.hek_levels.specs.Uncommitted.{passing_of, does_meet, is_met_in, did_leave, did_other_leave, with_one, is_other, who_by, who_with, who_below}
 
 -- the value of a pair
 pub noted_value : (f g : ℕ × ℕ → Option Who) (key value t : ℕ) (who : Who) → Some who ≡ with_one (f (key, value)) t →
@@ -71,15 +71,3 @@ other_below log t key need (suc n) =
 -- what the opening does not have
 pub found_else : (a b : Bool) → a ≡ false → b ≡ (a || b)
 found_else a b none = rw none refl
-
--- ---- who is not right
-
-pub falls : (log : Log) (t n : ℕ) → t < n → is_right log t ≡ false → are_right log n ≡ false
-falls log t zero l wrong = absurd (omega (arith, l))
-falls log t (suc n) l wrong =
-    elim (cases_Bool (t == n)) [
-      | inl same ↦
-          let here : is_right log n ≡ false = subst (λ (m : ℕ). is_right log m ≡ false) (eqb-true t n same) wrong in
-          elim (cases_Bool (are_right log n)) [ inl a ↦ rw a here | inr a ↦ rw a refl ]
-      | inr other ↦ let before = falls log t n (grind (arith, nat_tests, other, l)) wrong in rw before refl
-    ]

@@ -1,6 +1,15 @@
 pub mod Orders
 pub mod Earlier
+pub mod Turned
+pub mod Among
+pub mod Ranged
+pub mod Givens
+pub mod Sourcing
 pub mod Marks
 pub mod Swept
 pub mod Judged
+pub mod Touched
+pub mod Lasts
+pub mod Replays
+pub mod Pointed
 pub mod Founds

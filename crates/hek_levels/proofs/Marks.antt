@@ -1,5 +1,5 @@
 -- What is marked stays marked; small steps of loops.
-use Rattle.std.proofs.Common.{◌≡◌, ◌==◌, ℕ, zero, suc, ◌<◌, true, false, cond, List, [], ◌∷◌, ◌++◌, Option, Some, None, refl, ◌∙◌, inl, inr, ◌⊎◌, length}
+use Rattle.std.proofs.Common.{◌≡◌, ◌==◌, ℕ, zero, suc, ◌<◌, true, false, cond, List, [], ◌∷◌, Option, Some, None, refl, ◌∙◌, inl, inr, length}
 use Rattle.std.proofs.lemmas.Bool.{cases_Bool, eqb-true, eq-eqb}
 use Rattle.std.proofs.lemmas.Option.{slice_get_within}
 use Rattle.std.specs.Prelude.{slice_get, is_some}
@@ -7,8 +7,9 @@ use Rattle.hek_levels.specs.declared.log.Log.{Log}
 use Rattle.hek_levels.specs.declared.log.Read.{Read}
 use Rattle.hek_levels.specs.declared.log.Change.{Change}
 use Rattle.hek_levels.specs.declared.log.Transaction.{Transaction}
+use Rattle.hek_levels.specs.declared.log.Place.TheVariants.{Listed}
 use Rattle.hek_levels.specs.Logs.{is_committed, committed_in, left_in, read_at, reads_of}
-use Rattle.hek_levels.specs.Sweeps.{IsListed, AreKept}
+use Rattle.hek_levels.specs.Sweeps.{IsMarked, AreKept}
 
 pub kept-refl : (f : ℕ → Option ℕ) → AreKept f f
 kept-refl f x m = m
@@ -34,7 +35,7 @@ committed_in-some log t e = go (slice_get log.transactions.items t) refl e
 pub committed_within : (log : Log) (t : ℕ) → is_committed log t ≡ true → t < length log.transactions.items
 committed_within log t e = let s = committed_in-some log t e in slice_get_within log.transactions.items t s.0 s.1
 
-pub read_within : (log : Log) (t r : ℕ) (read : Read) → read_at log t r ≡ Some read → r < length (reads_of log t)
+pub read_within : (log : Log) (t r : ℕ) (read : Read) → read_at log t (Listed r) ≡ Some read → r < length (reads_of log t)
 read_within log t r read e = slice_get_within (reads_of log t) r read e
 
 -- who writes a key has a change of it
@@ -46,24 +47,13 @@ changed_by (c ∷ changes) key e =
       | inr other ↦ let r = changed_by changes key (rw other at e) in (suc r.0, r.1, r.2, r.3)
     ]
 
--- the list with one more
-at-old : (xs : List ℕ) (y x n : ℕ) → slice_get xs n ≡ Some x → slice_get (xs ++ y ∷ []) n ≡ Some x
-at-old [] y x n e = cc
-at-old (z ∷ xs) y x zero e = e
-at-old (z ∷ xs) y x (suc n) e = at-old xs y x n e
+-- a map with one entry more keeps what was marked
+pub kept_entry : (f g : ℕ → Option ℕ) (t i : ℕ) → ((k : ℕ) → g k ≡ cond (t == k) (Some i) (f k)) → AreKept f g
+kept_entry f g t i more x m =
+    elim (cases_Bool (t == x)) [
+      | inl same ↦ (i, more x ∙ rw same refl)
+      | inr other ↦ (m.0, more x ∙ rw other m.1)
+    ]
 
-at-cases : (xs : List ℕ) (y x n : ℕ) → slice_get (xs ++ y ∷ []) n ≡ Some x → (slice_get xs n ≡ Some x) ⊎ (y ≡ x)
-at-cases [] y x zero e = inr (let f : ◌≡◌ {A = Option ℕ} (Some y) (Some x) = e in cc)
-at-cases [] y x (suc n) e = inl e
-at-cases (z ∷ xs) y x zero e = inl e
-at-cases (z ∷ xs) y x (suc n) e = at-cases xs y x n e
-
-pub listed-old : (xs : List ℕ) (y x : ℕ) → IsListed xs x → IsListed (xs ++ y ∷ []) x
-listed-old xs y x l = (l.0, at-old xs y x l.0 l.1)
-
-pub listed-new : (xs : List ℕ) (y : ℕ) → IsListed (xs ++ y ∷ []) y
-listed-new [] y = (zero, refl)
-listed-new (z ∷ xs) y = let r = listed-new xs y in (suc r.0, r.1)
-
-pub listed-cases : (xs : List ℕ) (y x : ℕ) → IsListed (xs ++ y ∷ []) x → IsListed xs x ⊎ (y ≡ x)
-listed-cases xs y x l = elim (at-cases xs y x l.0 l.1) [ inl old ↦ inl (l.0, old) | inr new ↦ inr new ]
+pub marked_entry : (f g : ℕ → Option ℕ) (t i : ℕ) → ((k : ℕ) → g k ≡ cond (t == k) (Some i) (f k)) → IsMarked g t
+marked_entry f g t i more = (i, more t ∙ rw (eq-eqb t t refl) refl)

@@ -2,6 +2,9 @@ pub mod Logs
 pub mod Seen
 pub mod Explanations
 pub mod Places
+pub mod Rows
 pub mod Sweeps
 pub mod Levels
+pub mod Points
 pub mod Uncommitted
+pub mod Absences

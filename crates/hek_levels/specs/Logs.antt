@@ -1,13 +1,19 @@
 -- What a log says of a transaction, and what a writer leaves at a key.
-use Rattle.std.specs.Prelude.{ℕ, ◌==◌, ◌&&◌, nat_lt, Bool, true, false, if◌then◌else◌, List, [], ◌∷◌, Option, Some, None, is_some, slice_get}
+use Rattle.std.specs.Prelude.{ℕ, ◌==◌, ◌&&◌, nat_lt, not, Bool, true, false, if◌then◌else◌, List, [], ◌∷◌, Option, Some, None, is_some, slice_get}
+use Rattle.std.specs.List.{list_any}
 use Rattle.hek_rules.specs.Listing.{value_of}
+use Rattle.hek_history.specs.declared.history.Status.{Status}
+use Rattle.hek_history.specs.declared.history.Status.TheVariants.{Committed, Aborted, Unknown}
+use Rattle.hek_history.specs.Answers.{covers}
+use Rattle.hek_history.specs.Histories.{committed_by}
 use Rattle.hek_levels.specs.declared.log.Log.{Log}
 use Rattle.hek_levels.specs.declared.log.Transaction.{Transaction}
-use Rattle.hek_levels.specs.declared.log.Status.{Status}
-use Rattle.hek_levels.specs.declared.log.Status.TheVariants.{Committed, Aborted, Unknown}
 use Rattle.hek_levels.specs.declared.log.Need.{Need}
 use Rattle.hek_levels.specs.declared.log.Need.TheVariants.{Absent, Present, Value}
 use Rattle.hek_levels.specs.declared.log.Read.{Read}
+use Rattle.hek_levels.specs.declared.log.Scan.{Scan}
+use Rattle.hek_levels.specs.declared.log.Place.{Place}
+use Rattle.hek_levels.specs.declared.log.Place.TheVariants.{Listed, Missing}
 use Rattle.hek_levels.specs.declared.log.Change.{Change}
 use Rattle.hek_levels.specs.declared.log.Turn.{Turn}
 use Rattle.hek_levels.specs.declared.certificate.Writer.{Writer}
@@ -30,8 +36,8 @@ left_in (c ∷ cs) key = if c.key == key then Some c.value else left_in cs key
 abbrev pub transaction : Log → ℕ → Option Transaction
 transaction log t = slice_get log.transactions.items t
 
--- of the transaction t: its reads, its writes, its turn, whether it committed, and whether it may take place. A number that
--- names none has nothing
+-- of the transaction t: its reads, its scans, its writes, its turns, whether it committed, and whether it may take place. A number
+-- that names none has nothing
 abbrev pub reads_in : Option Transaction → List Read
 reads_in None = []
 reads_in (Some x) = x.reads.items
@@ -39,8 +45,25 @@ reads_in (Some x) = x.reads.items
 abbrev pub reads_of : Log → ℕ → List Read
 reads_of log t = reads_in (transaction log t)
 
-abbrev pub read_at : Log → ℕ → ℕ → Option Read
-read_at log t r = slice_get (reads_of log t) r
+abbrev pub scans_in : Option Transaction → List Scan
+scans_in None = []
+scans_in (Some x) = x.scans.items
+
+abbrev pub scans_of : Log → ℕ → List Scan
+scans_of log t = scans_in (transaction log t)
+
+-- whether a scan says that a key is absent
+abbrev pub misses : Scan → ℕ → Bool
+misses scan key = covers scan.scope key && not (list_any (λ k. k == key) scan.except.items)
+
+abbrev pub missing_in : Option Scan → ℕ → Option Read
+missing_in None key = None
+missing_in (Some scan) key = if misses scan key then Some (record { operation = scan.operation; key = key; need = Absent }) else None
+
+-- the read of t at a place
+abbrev pub read_at : Log → ℕ → Place → Option Read
+read_at log t (Listed r) = slice_get (reads_of log t) r
+read_at log t (Missing s key) = missing_in (slice_get (scans_of log t) s) key
 
 abbrev pub writes_in : Option Transaction → List Change
 writes_in None = []
@@ -49,17 +72,12 @@ writes_in (Some x) = x.writes.items
 abbrev pub writes_of : Log → ℕ → List Change
 writes_of log t = writes_in (transaction log t)
 
-abbrev pub turn_in : Option Transaction → Option Turn
-turn_in None = None
-turn_in (Some x) = x.turn
+abbrev pub turns_in : Option Transaction → List Turn
+turns_in None = []
+turns_in (Some x) = x.turns.items
 
-abbrev pub turn_of : Log → ℕ → Option Turn
-turn_of log t = turn_in (transaction log t)
-
-abbrev pub committed_by : Status → Bool
-committed_by Committed = true
-committed_by Aborted = false
-committed_by Unknown = false
+abbrev pub turns_of : Log → ℕ → List Turn
+turns_of log t = turns_in (transaction log t)
 
 abbrev pub aborted_by : Status → Bool
 aborted_by Committed = false
@@ -81,14 +99,20 @@ possible_in (Some x) = if aborted_by x.status then false else x.fits
 abbrev pub is_possible : Log → ℕ → Bool
 is_possible log t = possible_in (transaction log t)
 
--- whether x is before t in their session
-abbrev pub is_before_turn : Option Turn → Option Turn → Bool
-is_before_turn None b = false
-is_before_turn (Some x) None = false
-is_before_turn (Some x) (Some y) = (x.session == y.session) && nat_lt x.last y.first
+-- whether one turn is before another, and whether the other sees that
+abbrev pub is_before_turn : Turn → Turn → Bool
+is_before_turn x y = (x.lane == y.lane) && nat_lt x.last y.first
 
+abbrev pub is_seen_turn : Turn → Turn → Bool
+is_seen_turn x y = y.seen && is_before_turn x y
+
+-- whether a turn of x is before one of t
+abbrev pub is_kept : Log → ℕ → ℕ → Bool
+is_kept log x t = list_any (λ a. list_any (λ b. is_before_turn a b) (turns_of log t)) (turns_of log x)
+
+-- whether a turn of x is before one of t that sees it
 abbrev pub is_earlier : Log → ℕ → ℕ → Bool
-is_earlier log x t = is_before_turn (turn_of log x) (turn_of log t)
+is_earlier log x t = list_any (λ a. list_any (λ b. is_seen_turn a b) (turns_of log t)) (turns_of log x)
 
 -- what a writer leaves at a key; the opening writes each
 abbrev pub left_by : Log → ℕ → Writer → Option (Option ℕ)

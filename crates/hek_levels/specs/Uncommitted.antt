@@ -1,5 +1,5 @@
 -- Read uncommitted: what each committed transaction found was at some time there.
-use Rattle.std.specs.Prelude.{ℕ, zero, suc, ◌≡◌, ◌==◌, ◌&&◌, ◌||◌, ◌⊎◌, not, Bool, true, false, if◌then◌else◌, List, [], ◌∷◌, ◌++◌, Option, Some, None, length, slice_get}
+use Rattle.std.specs.Prelude.{ℕ, zero, suc, ◌≡◌, ◌<◌, ◌==◌, ◌&&◌, ◌||◌, not, Bool, true, false, if◌then◌else◌, List, [], ◌∷◌, Option, Some, None, length}
 use Rattle.std.specs.HashMap.{get}
 use Rattle.hek_rules.specs.Listing.{value_of}
 use Rattle.hek_levels.specs.declared.log.Log.{Log}
@@ -7,11 +7,13 @@ use Rattle.hek_levels.specs.declared.log.Transaction.{Transaction}
 use Rattle.hek_levels.specs.declared.log.Need.{Need}
 use Rattle.hek_levels.specs.declared.log.Need.TheVariants.{Absent, Present, Value}
 use Rattle.hek_levels.specs.declared.log.Read.{Read}
+use Rattle.hek_levels.specs.declared.log.Place.{Place}
 use Rattle.hek_levels.specs.declared.log.Change.{Change}
 use Rattle.hek_levels.specs.declared.uncommitted.Who.{Who}
 use Rattle.hek_levels.specs.declared.uncommitted.Who.TheVariants.{One, Several}
 use Rattle.hek_levels.specs.declared.uncommitted.Changers.{Changers}
-use Rattle.hek_levels.specs.Logs.{meets, transaction, reads_of, read_at, writes_of, is_committed, is_possible}
+use Rattle.hek_levels.specs.Logs.{meets, transaction, read_at, writes_of, is_committed, is_kept, aborted_by}
+use Rattle.hek_levels.specs.Seen.{At}
 
 -- the changes of t that a later one of its own undoes
 abbrev pub passing_in : Option Transaction → List Change
@@ -38,39 +40,52 @@ abbrev pub did_other_leave : Log → ℕ → ℕ → Need → ℕ → Bool
 did_other_leave log t key need zero = false
 did_other_leave log t key need (suc n) = did_other_leave log t key need n || (not (n == t) && did_leave log n key need)
 
--- whether what a read of t found is what the opening has, or what another transaction at some time left
+-- whether what a read of t found is what the opening has, or what a change of another transaction left
 abbrev pub is_found : Log → ℕ → Read → Bool
 is_found log t read = meets read.need (value_of log.rows.items read.key) || did_other_leave log t read.key read.need (length log.transactions.items)
 
-abbrev pub are_found : Log → ℕ → List Read → Bool
-are_found log t [] = true
-are_found log t (read ∷ reads) = is_found log t read && are_found log t reads
+-- each read of t found what was at some time there
+abbrev pub AreFoundBy : Log → ℕ → Type 0
+AreFoundBy log t = (r : Place) (read : Read) → read_at log t r ≡ Some read → is_found log t read ≡ true
 
--- whether t is not known to have committed, or fits and found what was there
-abbrev pub is_right : Log → ℕ → Bool
-is_right log t = if is_committed log t then is_possible log t && are_found log t (reads_of log t) else true
+-- the same of each that is known to have committed
+abbrev pub AreFound : Log → Type 0
+AreFound log = (t : ℕ) → is_committed log t ≡ true → AreFoundBy log t
 
-abbrev pub are_right : Log → ℕ → Bool
-are_right log zero = true
-are_right log (suc n) = are_right log n && is_right log n
+-- t is known to have committed, and its read at a place found what was never there
+abbrev pub IsLost : Log → ℕ → Place → Type 0
+IsLost log t r = (is_committed log t ≡ true) × (read : Read) × (read_at log t r ≡ Some read) × (is_found log t read ≡ false)
 
-abbrev pub is_read_uncommitted : Log → Bool
-is_read_uncommitted log = are_right log (length log.transactions.items)
+-- whether t did not abort
+abbrev pub alive_in : Option Transaction → Bool
+alive_in None = false
+alive_in (Some x) = not (aborted_by x.status)
 
--- ---- the same in other words
+abbrev pub is_alive : Log → ℕ → Bool
+is_alive log t = alive_in (transaction log t)
 
--- x at some time left at the key of the read what meets its need
-abbrev pub DidLeave : Log → ℕ → Read → Type 0
-DidLeave log x read = (n : ℕ) × (c : Change) × (slice_get (writes_of log x ++ passing_of log x) n ≡ Some c) × (c.key ≡ read.key) × (meets read.need c.value ≡ true)
+-- an order of all that are known to have committed, and others that did not abort, that keeps turns
+pub record IsInTurn (log : Log) (order : List ℕ) : Type 0 where
+  pub alive : (i t : ℕ) → At order i t → is_alive log t ≡ true
+  pub once : (i j t : ℕ) → At order i t → At order j t → i ≡ j
+  pub committed : (t : ℕ) → is_committed log t ≡ true → (i : ℕ) × At order i t
+  pub turns : (i j x t : ℕ) → At order i x → At order j t → is_kept log x t ≡ true → i < j
 
-abbrev pub IsFound : Log → ℕ → Read → Type 0
-IsFound log t read = (meets read.need (value_of log.rows.items read.key) ≡ true) ⊎ ((x : ℕ) × (x ≡ t → ⊥) × DidLeave log x read)
+-- each read found what was at some time there, and some order keeps turns
+abbrev pub IsReadUncommitted : Log → Type 0
+IsReadUncommitted log = AreFound log × ((order : List ℕ) × IsInTurn log order)
 
-pub record IsReadUncommitted (log : Log) : Type 0 where
-  -- who committed does not contradict itself
-  pub fits : (t : ℕ) → is_committed log t ≡ true → is_possible log t ≡ true
-  -- and found what was there
-  pub found : (t r : ℕ) (read : Read) → is_committed log t ≡ true → read_at log t r ≡ Some read → IsFound log t read
+-- a transaction without its reads and writes
+abbrev pub IsBareOf : Option Transaction → Option Transaction → Type 0
+IsBareOf None None = Unit {0}
+IsBareOf None (Some y) = ⊥
+IsBareOf (Some x) None = ⊥
+IsBareOf (Some x) (Some y) =
+    (y.status ≡ x.status) × (y.fits ≡ true) × (y.turns.items ≡ x.turns.items) × (y.reads.items ≡ []) × (y.scans.items ≡ []) × (y.writes.items ≡ [])
+
+-- a log without reads and writes
+abbrev pub IsBare : Log → Log → Type 0
+IsBare log bare = (t : ℕ) → IsBareOf (transaction log t) (transaction bare t)
 
 -- ---- an index of who leaves what
 
@@ -108,8 +123,3 @@ who_below log key need (suc n) who = who_with log key need n (who_below log key 
 -- the index knows who leaves what
 abbrev pub IsIndex : Log → Changers → Type 0
 IsIndex log changers = (key : ℕ) (need : Need) → who_in changers key need ≡ who_below log key need (length log.transactions.items) None
-
--- the first of two values, or else the second
-abbrev pub either : Option ℕ → Option ℕ → Option ℕ
-either None b = b
-either (Some a) b = Some a

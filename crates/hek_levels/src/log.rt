@@ -1,13 +1,6 @@
 //! A log as levels see it: what each transaction found that it had not itself changed, and what it left.
 
-/// How a transaction ended, as far as it is known.
-#[derive(Clone, Copy)]
-pub enum Status {
-    Committed,
-    Aborted,
-    /// It is not known whether it committed.
-    Unknown,
-}
+use hek_history::{Scope, Status};
 
 /// What an answer says of a key.
 #[derive(Clone, Copy)]
@@ -21,10 +14,26 @@ pub enum Need {
 /// What an operation says of a key that no earlier operation of its transaction changes.
 #[derive(Clone, Copy)]
 pub struct Read {
-    /// The place of the operation in its transaction. A scan has a read for each key, all of one operation.
+    /// The place of the operation in its transaction.
     pub operation: usize,
     pub key: u64,
     pub need: Need,
+}
+
+/// A scan says of each key of its scope that it is absent, but of these: those that it found, of each of which there is a read,
+/// and those that earlier operations of its transaction changed. They rise.
+#[derive(Drop)]
+pub struct Scan {
+    pub operation: usize,
+    pub scope: Scope,
+    pub except: Vec<u64>,
+}
+
+/// A read of a transaction: the one at this place of its list, or that a key is missing in one of its scans.
+#[derive(Clone, Copy, PartialEq, Eq)]
+pub enum Place {
+    Listed(usize),
+    Missing { scan: usize, key: u64 },
 }
 
 /// A key gets a value, or goes.
@@ -34,13 +43,16 @@ pub struct Change {
     pub value: Option<u64>,
 }
 
-/// The part of a session that a transaction has, from its first number to its last. Of two turns of one session that one is before
-/// whose last number is below the first of the other. Those whose numbers overlap have no order.
+/// The part of a lane that a transaction has, from its first number to its last. Lanes are sessions, real time, and the versions
+/// of each key. Of two turns of one lane that one is before whose last number is below the first of the other. Those whose
+/// numbers overlap have no order.
 #[derive(Clone, Copy)]
 pub struct Turn {
-    pub session: usize,
+    pub lane: usize,
     pub first: u64,
     pub last: u64,
+    /// Whether the transaction sees those before it, at the levels at which that is asked for.
+    pub seen: bool,
 }
 
 /// A transaction.
@@ -49,8 +61,9 @@ pub struct Transaction {
     pub status: Status,
     /// Whether each answer on a key that the transaction itself had changed is that of its own last change.
     pub fits: bool,
-    pub turn: Option<Turn>,
+    pub turns: Vec<Turn>,
     pub reads: Vec<Read>,
+    pub scans: Vec<Scan>,
     /// Its last change of each key.
     pub writes: Vec<Change>,
     /// Its changes that a later one of its own undoes.

@@ -1,12 +1,15 @@
 //! What a log says of a transaction.
-ghost use Rattle.std.specs.Prelude.{◌≡◌, slice_get};
+ghost use Rattle.std.specs.Prelude.{◌≡◌, slice_get, Some, true, false, IsTrue};
+ghost use Rattle.std.specs.List.{list_any};
 ghost use Rattle.hek_rules.specs.Listing.{value_of as value_in};
-ghost use Rattle.hek_levels.specs.Logs.{meets as meets_it, left_in, reads_of as reads_there, writes_of as writes_there, turn_of as turn_there, read_at as read_there, is_committed as committed_there, is_possible as possible_there, is_earlier as earlier_there, does_write as writes_it, left_by as left_there, offers as offers_it};
+ghost use Rattle.hek_levels.specs.Logs.{meets as meets_it, left_in, reads_of as reads_there, scans_of as scans_there, writes_of as writes_there, turns_of as turns_there, read_at as read_there, missing_in, misses as misses_it, is_committed as committed_there, is_possible as possible_there, is_earlier as earlier_there, is_kept as kept_there, is_before_turn, is_seen_turn, does_write as writes_it, left_by as left_there, offers as offers_it};
+ghost use Rattle.hek_levels.specs.declared.log.Turn.{Turn as TheTurn};
 ghost use Rattle.hek_levels.specs.Uncommitted.{passing_of as passing_there};
-ghost use Rattle.hek_levels.specs.Explanations.{source_in as source_there};
+ghost use Rattle.hek_levels.specs.Sweeps.{HasNoSeenTurns};
 
-use crate::certificate::{Sources, Writer};
-use crate::log::{Change, Log, Need, Read, Status, Turn};
+use crate::certificate::Writer;
+use crate::log::{Change, Log, Need, Place, Read, Scan, Turn};
+use hek_history::{Status, covers};
 
 /// The reads of t.
 pub fn reads_of(log: &Log, t: usize) -> &[Read]
@@ -14,6 +17,16 @@ pub fn reads_of(log: &Log, t: usize) -> &[Read]
 {
     match log.transactions.get(t) {
         Some(transaction) => transaction.reads.as_slice(),
+        None => &[],
+    }
+}
+
+/// The scans of t.
+pub fn scans_of(log: &Log, t: usize) -> &[Scan]
+    ensures { result.now ≡ scans_there log.now t }
+{
+    match log.transactions.get(t) {
+        Some(transaction) => transaction.scans.as_slice(),
         None => &[],
     }
 }
@@ -38,21 +51,69 @@ pub fn passing_of(log: &Log, t: usize) -> &[Change]
     }
 }
 
-/// The turn of t in its session, if it is of one.
-pub fn turn_of(log: &Log, t: usize) -> Option<Turn>
-    ensures { result ≡ turn_there log.now t }
+/// The turns of t.
+pub fn turns_of(log: &Log, t: usize) -> &[Turn]
+    ensures { result.now ≡ turns_there log.now t }
 {
     match log.transactions.get(t) {
-        Some(transaction) => transaction.turn,
-        None => None,
+        Some(transaction) => transaction.turns.as_slice(),
+        None => &[],
     }
 }
 
-/// The r-th read of t.
-pub fn read_at(log: &Log, t: usize, r: usize) -> Option<Read>
-    ensures { result ≡ read_there log.now t r }
+/// Whether a scan says that a key is absent.
+pub fn misses(scan: &Scan, key: u64) -> bool
+    ensures { result ≡ misses_it scan.now key }
 {
-    reads_of(log, t).get(r).copied()
+    covers(scan.scope, key) && !scan.except.contains(&key)
+}
+
+/// Whether the n-th of these is a key.
+fn is_there(keys: &[u64], n: usize, key: u64) -> bool
+    ensures { IsTrue result → slice_get keys.now n ≡ Some key }
+{
+    match keys.get(n) {
+        Some(found) => *found == key,
+        None => false,
+    }
+}
+
+/// Whether a key is among those of which a scan does not say that they are absent, which rise.
+pub(crate) fn is_excepted(scan: &Scan, key: u64) -> bool
+    ensures { IsTrue result → misses_it scan.now key ≡ false }
+{
+    match scan.except.binary_search(&key) {
+        Ok(n) => is_there(scan.except.as_slice(), n, key),
+        Err(_) => false,
+    }
+}
+
+/// What a scan says of a key that is missing in it.
+fn missing(scan: &Scan, key: u64) -> Option<Read>
+    ensures { result ≡ missing_in (Some scan.now) key }
+{
+    if misses(scan, key) {
+        Some(Read {
+            operation: scan.operation,
+            key,
+            need: Need::Absent,
+        })
+    } else {
+        None
+    }
+}
+
+/// The read of t at a place, if there is one.
+pub fn read_at(log: &Log, t: usize, place: Place) -> Option<Read>
+    ensures { result ≡ read_there log.now t place }
+{
+    match place {
+        Place::Listed(r) => reads_of(log, t).get(r).copied(),
+        Place::Missing { scan, key } => match scans_of(log, t).get(scan) {
+            Some(one) => missing(one, key),
+            None => None,
+        },
+    }
 }
 
 /// Whether t is known to have committed.
@@ -81,17 +142,96 @@ pub fn is_possible(log: &Log, t: usize) -> bool
     }
 }
 
-/// Whether x is before t in their session.
+/// Whether one turn is before another.
+fn is_before(turn: Turn, other: Turn) -> bool
+    ensures { result ≡ is_before_turn turn other }
+{
+    turn.lane == other.lane && turn.last < other.first
+}
+
+/// Whether a turn is before one of these.
+fn is_before_one(turn: Turn, others: &[Turn]) -> bool
+    ensures { result ≡ list_any (λ b. is_before_turn turn b) others.now }
+{
+    for other in others {
+        if is_before(turn, *other) {
+            return true;
+        }
+    }
+    false
+}
+
+/// The same of the n-th turn.
+fn is_before_at(turns: &[Turn], n: usize, others: &[Turn]) -> bool
+    ensures { (a : TheTurn) → slice_get turns.now n ≡ Some a → result ≡ list_any (λ b. is_before_turn a b) others.now }
+{
+    match turns.get(n) {
+        Some(turn) => is_before_one(*turn, others),
+        None => false,
+    }
+}
+
+/// Whether a turn is before one of these that is seen.
+fn is_seen_by_one(turn: Turn, others: &[Turn]) -> bool
+    ensures { result ≡ list_any (λ b. is_seen_turn turn b) others.now }
+{
+    for other in others {
+        if other.seen && is_before(turn, *other) {
+            return true;
+        }
+    }
+    false
+}
+
+/// The same of the n-th turn.
+fn is_seen_at(turns: &[Turn], n: usize, others: &[Turn]) -> bool
+    ensures { (a : TheTurn) → slice_get turns.now n ≡ Some a → result ≡ list_any (λ b. is_seen_turn a b) others.now }
+{
+    match turns.get(n) {
+        Some(turn) => is_seen_by_one(*turn, others),
+        None => false,
+    }
+}
+
+/// Whether some turn of t is seen.
+pub(crate) fn has_seen_turns(log: &Log, t: usize) -> bool
+    ensures { result ≡ false → HasNoSeenTurns log.now t }
+{
+    let turns = turns_of(log, t);
+    for n in 0..turns.len() {
+        if turns[n].seen {
+            return true;
+        }
+    }
+    false
+}
+
+/// Whether a turn of x is before one of t.
+pub fn is_kept(log: &Log, x: usize, t: usize) -> bool
+    ensures { result ≡ kept_there log.now x t }
+{
+    let turns = turns_of(log, x);
+    let others = turns_of(log, t);
+    for n in 0..turns.len() {
+        if is_before_at(turns, n, others) {
+            return true;
+        }
+    }
+    false
+}
+
+/// Whether a turn of x is before one of t in a lane where turns are seen.
 pub fn is_earlier(log: &Log, x: usize, t: usize) -> bool
     ensures { result ≡ earlier_there log.now x t }
 {
-    let Some(its) = turn_of(log, x) else {
-        return false;
-    };
-    let Some(other) = turn_of(log, t) else {
-        return false;
-    };
-    its.session == other.session && its.last < other.first
+    let turns = turns_of(log, x);
+    let others = turns_of(log, t);
+    for n in 0..turns.len() {
+        if is_seen_at(turns, n, others) {
+            return true;
+        }
+    }
+    false
 }
 
 /// Whether a value, or its absence, meets the need.
@@ -156,19 +296,6 @@ pub fn offers(log: &Log, writer: Writer, read: Read) -> bool
     match left_by(log, read.key, writer) {
         Some(value) => meets(read.need, value),
         None => false,
-    }
-}
-
-/// The source of the r-th read of t.
-pub fn source_in(sources: &[Sources], t: usize, r: usize) -> Writer
-    ensures { result ≡ source_there sources.now t r }
-{
-    let Some(list) = sources.get(t) else {
-        return Writer::Opening;
-    };
-    match list.writers.get(r) {
-        Some(writer) => *writer,
-        None => Writer::Opening,
     }
 }
 

@@ -12,7 +12,7 @@ use hek_rules::NoMemory;
 use std::collections::HashMap;
 
 /// The place of t is i from now on.
-fn mark(places: &mut HashMap<usize, usize>, t: usize, i: usize) -> Result<(), NoMemory>
+pub(crate) fn mark(places: &mut HashMap<usize, usize>, t: usize, i: usize) -> Result<(), NoMemory>
     ensures { OnOk result ((k : ℕ) → get_in ◌==◌ places.new k ≡ (if t == k then Some i else get_in ◌==◌ places.old k)) }
 {
     let _before = places.insert(t, i)?;
@@ -27,7 +27,7 @@ pub(crate) fn place_of(places: &HashMap<usize, usize>, t: usize) -> Option<usize
 }
 
 /// Whether t has no place.
-fn is_absent(places: &HashMap<usize, usize>, t: usize) -> bool
+pub(crate) fn is_absent(places: &HashMap<usize, usize>, t: usize) -> bool
     ensures { IsTrue result ↔ (get_in ◌==◌ places.now t ≡ None) }
 {
     places.get(&t).is_none()

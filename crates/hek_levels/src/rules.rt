@@ -1,6 +1,6 @@
 //! Levels and guarantees, each as what a read sees.
 ghost use Rattle.std.specs.Prelude.{◌≡◌};
-ghost use Rattle.hek_levels.specs.Levels.{links, plain_rules, conflict_rules, rules_of, rules_for};
+ghost use Rattle.hek_levels.specs.Levels.{links, plain_rules, cause_rules, rules_of, rules_for, asked_of};
 
 /// The levels of a whole history. Read uncommitted is below them, and has no rules: it asks for no order.
 #[derive(Clone, Copy)]
@@ -13,6 +13,8 @@ pub enum Level {
     ReadAtomic,
     /// Who sees a transaction sees all that it saw.
     Causal,
+    /// The same, and all that commit before it.
+    Prefix,
     /// Of two writers of a key one sees the other.
     ParallelSnapshot,
     /// The same, and who sees a transaction sees all that commit before it.
@@ -34,27 +36,25 @@ pub struct Guarantees {
 #[derive(Clone, Copy)]
 pub enum Own {
     Nothing,
-    /// Those of the same operation and of earlier ones.
+    /// Those of earlier operations, and the read itself.
     Earlier,
     All,
 }
 
-/// Whom a transaction sees by writes and by its session.
+/// Whom a transaction sees by writes and by its turns.
 #[derive(Clone, Copy)]
 pub struct Links {
     /// The earlier writers of the keys that it writes.
     pub writers: bool,
-    /// Those before it in its session.
-    pub session: bool,
-    /// The sources of those before it in its session.
-    pub session_reads: bool,
+    /// Those whose turns are before its own, in lanes where turns are seen.
+    pub turns: bool,
+    /// The sources of these.
+    pub turn_reads: bool,
 }
 
 /// What a read sees.
 #[derive(Clone, Copy)]
 pub struct Rules {
-    /// The order keeps the turns of each session.
-    pub sessions: bool,
     /// A read sees all that is before its transaction.
     pub whole: bool,
     /// What it sees by the reads of its transaction.
@@ -69,57 +69,47 @@ pub struct Rules {
     pub next: Links,
 }
 
-/// Whom a transaction sees by writes and by its session.
-fn links_of(writers: bool, session: bool, session_reads: bool) -> Links
-    ensures { result ≡ links writers session session_reads }
+/// Whom a transaction sees by writes and by its turns.
+fn links_of(writers: bool, turns: bool, turn_reads: bool) -> Links
+    ensures { result ≡ links writers turns turn_reads }
 {
     Links {
         writers,
-        session,
-        session_reads,
+        turns,
+        turn_reads,
     }
 }
 
 impl Level {
-    /// The rules of the level, where sessions bind or do not.
-    pub fn rules(self, sessions: bool) -> Rules
-        ensures { result ≡ rules_of self sessions }
+    /// The rules of the level.
+    pub fn rules(self) -> Rules
+        ensures { result ≡ rules_of self }
     {
-        let by_session = links_of(false, sessions, false);
         match self {
-            Level::ReadCommitted => plain(sessions, false, Own::Nothing),
-            Level::MonotonicView => plain(sessions, false, Own::Earlier),
+            Level::ReadCommitted => plain(false, Own::Nothing),
+            Level::MonotonicView => plain(false, Own::Earlier),
             Level::ReadAtomic => Rules {
-                sessions,
                 whole: false,
                 own: Own::All,
-                first: by_session,
+                first: links_of(false, true, false),
                 causes: false,
                 prefix: false,
                 next: links_of(false, false, false),
             },
-            Level::Causal => Rules {
-                sessions,
-                whole: false,
-                own: Own::All,
-                first: by_session,
-                causes: true,
-                prefix: false,
-                next: by_session,
-            },
-            Level::ParallelSnapshot => by_conflict(sessions, false),
-            Level::Snapshot => by_conflict(sessions, true),
-            Level::Serializable => plain(sessions, true, Own::Nothing),
+            Level::Causal => by_causes(false, false),
+            Level::Prefix => by_causes(false, true),
+            Level::ParallelSnapshot => by_causes(true, false),
+            Level::Snapshot => by_causes(true, true),
+            Level::Serializable => plain(true, Own::Nothing),
         }
     }
 }
 
 /// Rules with no links.
-fn plain(sessions: bool, whole: bool, own: Own) -> Rules
-    ensures { result ≡ plain_rules sessions whole own }
+fn plain(whole: bool, own: Own) -> Rules
+    ensures { result ≡ plain_rules whole own }
 {
     Rules {
-        sessions,
         whole,
         own,
         first: links_of(false, false, false),
@@ -129,18 +119,18 @@ fn plain(sessions: bool, whole: bool, own: Own) -> Rules
     }
 }
 
-/// Rules by which of two writers of a key one sees the other.
-fn by_conflict(sessions: bool, prefix: bool) -> Rules
-    ensures { result ≡ conflict_rules sessions prefix }
+/// Rules by which whoever sees a transaction sees what it saw: also by writes, where of two writers of a key one sees the other, and
+/// also all that is before it.
+fn by_causes(writers: bool, prefix: bool) -> Rules
+    ensures { result ≡ cause_rules writers prefix }
 {
     Rules {
-        sessions,
         whole: false,
         own: Own::All,
-        first: links_of(true, sessions, false),
+        first: links_of(writers, true, false),
         causes: true,
         prefix,
-        next: links_of(true, sessions, false),
+        next: links_of(writers, true, false),
     }
 }
 
@@ -150,20 +140,35 @@ impl Guarantees {
         ensures { result ≡ rules_for self }
     {
         Rules {
-            sessions: true,
             whole: false,
             own: Own::Earlier,
-            first: Links {
-                writers: false,
-                session: self.read_your_writes,
-                session_reads: self.monotonic_reads,
-            },
+            first: links_of(false, self.read_your_writes, self.monotonic_reads),
             causes: self.writes_follow_reads,
             prefix: false,
-            next: Links {
-                writers: false,
-                session: self.monotonic_writes,
-                session_reads: self.writes_follow_reads,
+            next: links_of(false, self.monotonic_writes, self.writes_follow_reads),
+        }
+    }
+}
+
+/// Which rules each transaction has.
+#[derive(Drop)]
+pub enum Asked {
+    /// All have these.
+    All(Rules),
+    /// Each has its own, by its place; one that is not there has those of serializable.
+    Own(Vec<Rules>),
+}
+
+impl Asked {
+    /// The rules of t.
+    pub fn of(&self, t: usize) -> Rules
+        ensures { result ≡ asked_of self.now t }
+    {
+        match self {
+            Asked::All(rules) => *rules,
+            Asked::Own(list) => match list.get(t) {
+                Some(rules) => *rules,
+                None => plain(true, Own::Nothing),
             },
         }
     }

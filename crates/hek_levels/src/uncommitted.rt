@@ -1,16 +1,20 @@
-//! Read uncommitted, which asks for no order: what each committed transaction found was at some time there.
-ghost use Rattle.std.specs.Prelude.{◌≡◌, ◌==◌, ◌&&◌, ◌||◌, ℕ, Some, None, OnOk, IfOk, if◌then◌else◌};
+//! Read uncommitted: what each committed transaction found was at some time there, and some order keeps the turns.
+ghost use Rattle.std.specs.Prelude.{◌≡◌, ◌==◌, ◌&&◌, ℕ, Some, None, true, false, slice_get, IsTrue, OnOk, IfOk, IfSome, IfNone, if◌then◌else◌};
 ghost use Rattle.std.specs.HashMap.{get as get_in};
 ghost use Rattle.hek_rules.specs.Listing.{value_of};
 ghost use Rattle.hek_levels.specs.declared.log.Need.{Need as TheNeed};
-ghost use Rattle.hek_levels.specs.Logs.{meets as meets_it, reads_of as reads_there};
-ghost use Rattle.hek_levels.specs.Uncommitted.{is_read_uncommitted as is_so, is_right as is_right_there, is_found as is_found_there, are_found as are_found_there, does_meet, with_one, is_other as is_another, who_in, who_by, who_with, who_below, IsIndex, either};
+ghost use Rattle.hek_levels.specs.declared.log.Read.{Read as TheRead};
+ghost use Rattle.hek_levels.specs.declared.log.Place.TheVariants.{Listed as ListedAt, Missing as MissingAt};
+ghost use Rattle.hek_levels.specs.Logs.{read_at as read_there, is_committed as committed_there};
+ghost use Rattle.hek_levels.specs.Rows.{row_of};
+ghost use Rattle.hek_levels.specs.Uncommitted.{is_found as is_found_there, AreFoundBy, AreFound, IsLost as IsLostThere, IsBareOf, IsBare, does_meet, with_one, is_other as is_another, who_in, who_by, who_with, who_below, IsIndex};
 
-use crate::log::{Change, Log, Need, Read};
-use crate::logged::{is_committed, is_possible, meets, passing_of, reads_of, writes_of};
+use crate::log::{Change, Log, Need, Place, Read, Transaction};
+use crate::logged::{is_committed, meets, passing_of, read_at, reads_of, scans_of, writes_of};
+use crate::rows::{by_key, missed, row_of as value_at};
 use hek_rules::NoMemory;
 use std::alloc::Global;
-use std::collections::HashMap;
+use std::collections::{BTreeMap, HashMap};
 
 /// Who leaves something at a key.
 #[derive(Clone, Copy)]
@@ -136,84 +140,190 @@ fn who_leaves(changers: &Changers, key: u64, need: Need) -> Option<Who>
     }
 }
 
-/// One row more, unless its key has one.
-fn put_row(rows: &mut HashMap<u64, u64>, row: (u64, u64)) -> Result<(), NoMemory>
-    ensures { OnOk result ((k : ℕ) → get_in ◌==◌ rows.new k ≡ either (get_in ◌==◌ rows.old k) (if row.0 == k then Some row.1 else None)) }
-{
-    if rows.contains_key(&row.0) {
-        return Ok(());
-    }
-    let _before = rows.insert(row.0, row.1)?;
-    Ok(())
-}
-
-/// The rows by key.
-fn by_key(alloc: Global, rows: &[(u64, u64)]) -> Result<HashMap<u64, u64>, NoMemory>
-    ensures { IfOk result (λ map. (k : ℕ) → get_in ◌==◌ map k ≡ value_of rows.now k) }
-{
-    let mut map = HashMap::new(alloc);
-    for row in rows {
-        put_row(&mut map, *row)?;
-    }
-    Ok(map)
-}
-
-/// The value of a key in the rows.
-fn row_of(rows: &HashMap<u64, u64>, key: u64) -> Option<u64>
-    ensures { result ≡ get_in ◌==◌ rows.now key }
-{
-    rows.get(&key).copied()
-}
-
 /// Whether what a read of t found was at some time there.
-fn is_found(log: &Log, rows: &HashMap<u64, u64>, changers: &Changers, t: usize, read: Read) -> bool
-    requires rows { (k : ℕ) → get_in ◌==◌ rows.now k ≡ value_of log.now.rows.items k }
+fn is_found(log: &Log, rows: &BTreeMap<u64, u64>, changers: &Changers, t: usize, read: Read) -> bool
+    requires rows { (k : ℕ) → row_of rows.now k ≡ value_of log.now.rows.items k }
     requires index { IsIndex log.now changers.now }
     ensures { result ≡ is_found_there log.now t read }
 {
     // The proof counts the transactions, and a length that was asked for is in range.
     let _count = log.transactions.len();
-    meets(read.need, row_of(rows, read.key))
+    meets(read.need, value_at(rows, read.key))
         || is_other(who_leaves(changers, read.key, read.need), t)
 }
 
-/// Whether what each read of t found was.
-fn are_found(log: &Log, rows: &HashMap<u64, u64>, changers: &Changers, t: usize) -> bool
-    requires rows { (k : ℕ) → get_in ◌==◌ rows.now k ≡ value_of log.now.rows.items k }
+/// Whether the read of t at a place found what was never there.
+fn is_lost(
+    log: &Log,
+    rows: &BTreeMap<u64, u64>,
+    changers: &Changers,
+    t: usize,
+    place: Place,
+) -> bool
+    requires rows { (k : ℕ) → row_of rows.now k ≡ value_of log.now.rows.items k }
     requires index { IsIndex log.now changers.now }
-    ensures { result ≡ are_found_there log.now t (reads_there log.now t) }
+    ensures none { result ≡ false → (read : TheRead) → read_there log.now t place ≡ Some read → is_found_there log.now t read ≡ true }
+    ensures some { IsTrue result → (read : TheRead) × (read_there log.now t place ≡ Some read) × (is_found_there log.now t read ≡ false) }
 {
-    for read in reads_of(log, t) {
-        if !is_found(log, rows, changers, t, *read) {
-            return false;
+    match read_at(log, t, place) {
+        Some(read) => !is_found(log, rows, changers, t, read),
+        None => false,
+    }
+}
+
+/// The first read in the list of t that found what was never there.
+fn lost_listed(log: &Log, rows: &BTreeMap<u64, u64>, changers: &Changers, t: usize) -> Option<usize>
+    requires rows { (k : ℕ) → row_of rows.now k ≡ value_of log.now.rows.items k }
+    requires index { IsIndex log.now changers.now }
+    ensures none { IfNone result ((r : ℕ) (read : TheRead) → read_there log.now t (ListedAt r) ≡ Some read → is_found_there log.now t read ≡ true) }
+    ensures some { IfSome result (λ r. (read : TheRead) × (read_there log.now t (ListedAt r) ≡ Some read) × (is_found_there log.now t read ≡ false)) }
+{
+    for r in 0..reads_of(log, t).len() {
+        if is_lost(log, rows, changers, t, Place::Listed(r)) {
+            return Some(r);
         }
     }
-    true
+    None
 }
 
-/// Whether t is not known to have committed, or fits and found what was there.
-fn is_right(log: &Log, rows: &HashMap<u64, u64>, changers: &Changers, t: usize) -> bool
-    requires rows { (k : ℕ) → get_in ◌==◌ rows.now k ≡ value_of log.now.rows.items k }
+/// The n-th of these keys, if the scan of t at a place misses it, and it was never so.
+fn lost_key(
+    log: &Log,
+    rows: &BTreeMap<u64, u64>,
+    changers: &Changers,
+    t: usize,
+    s: usize,
+    keys: &[u64],
+    n: usize,
+) -> Option<u64>
+    requires rows { (k : ℕ) → row_of rows.now k ≡ value_of log.now.rows.items k }
     requires index { IsIndex log.now changers.now }
-    ensures { result ≡ is_right_there log.now t }
+    ensures none { IfNone result ((key : ℕ) (read : TheRead) → slice_get keys.now n ≡ Some key → read_there log.now t (MissingAt s key) ≡ Some read → is_found_there log.now t read ≡ true) }
+    ensures some { IfSome result (λ key. (read : TheRead) × (read_there log.now t (MissingAt s key) ≡ Some read) × (is_found_there log.now t read ≡ false)) }
+{
+    let Some(there) = keys.get(n) else {
+        return None;
+    };
+    let key = *there;
+    let place = Place::Missing { scan: s, key };
+    if is_lost(log, rows, changers, t, place) {
+        Some(key)
+    } else {
+        None
+    }
+}
+
+/// A key that is missing in the scan of t at a place, and was never so.
+fn lost_missing(
+    alloc: Global,
+    log: &Log,
+    rows: &BTreeMap<u64, u64>,
+    changers: &Changers,
+    t: usize,
+    s: usize,
+) -> Result<Option<u64>, NoMemory>
+    requires rows { (k : ℕ) → row_of rows.now k ≡ value_of log.now.rows.items k }
+    requires index { IsIndex log.now changers.now }
+    ensures none { IfOk result (λ found. IfNone found ((key : ℕ) (read : TheRead) → read_there log.now t (MissingAt s key) ≡ Some read → is_found_there log.now t read ≡ true)) }
+    ensures some { IfOk result (λ found. IfSome found (λ key. (read : TheRead) × (read_there log.now t (MissingAt s key) ≡ Some read) × (is_found_there log.now t read ≡ false))) }
+{
+    let Some(scan) = scans_of(log, t).get(s) else {
+        return Ok(None);
+    };
+    let list = missed(alloc, rows, scan)?;
+    let keys = list.as_slice();
+    for n in 0..keys.len() {
+        if let Some(key) = lost_key(log, rows, changers, t, s, keys, n) {
+            return Ok(Some(key));
+        }
+    }
+    Ok(None)
+}
+
+/// A key that is missing in a scan of t, and was never so.
+fn lost_in_scans(
+    alloc: Global,
+    log: &Log,
+    rows: &BTreeMap<u64, u64>,
+    changers: &Changers,
+    t: usize,
+) -> Result<Option<Place>, NoMemory>
+    requires rows { (k : ℕ) → row_of rows.now k ≡ value_of log.now.rows.items k }
+    requires index { IsIndex log.now changers.now }
+    ensures none { IfOk result (λ found. IfNone found ((s key : ℕ) (read : TheRead) → read_there log.now t (MissingAt s key) ≡ Some read → is_found_there log.now t read ≡ true)) }
+    ensures some { IfOk result (λ found. IfSome found (λ r. (read : TheRead) × (read_there log.now t r ≡ Some read) × (is_found_there log.now t read ≡ false))) }
+{
+    for s in 0..scans_of(log, t).len() {
+        if let Some(key) = lost_missing(alloc, log, rows, changers, t, s)? {
+            return Ok(Some(Place::Missing { scan: s, key }));
+        }
+    }
+    Ok(None)
+}
+
+/// A read of t that found what was never there, if t is known to have committed.
+fn lost_of(
+    alloc: Global,
+    log: &Log,
+    rows: &BTreeMap<u64, u64>,
+    changers: &Changers,
+    t: usize,
+) -> Result<Option<Place>, NoMemory>
+    requires rows { (k : ℕ) → row_of rows.now k ≡ value_of log.now.rows.items k }
+    requires index { IsIndex log.now changers.now }
+    ensures none { IfOk result (λ found. IfNone found (committed_there log.now t ≡ true → AreFoundBy log.now t)) }
+    ensures some { IfOk result (λ found. IfSome found (λ r. IsLostThere log.now t r)) }
 {
     if !is_committed(log, t) {
-        return true;
+        return Ok(None);
     }
-    is_possible(log, t) && are_found(log, rows, changers, t)
+    if let Some(r) = lost_listed(log, rows, changers, t) {
+        return Ok(Some(Place::Listed(r)));
+    }
+    lost_in_scans(alloc, log, rows, changers, t)
 }
 
-/// Whether a log is read uncommitted: whoever is known to have committed fits its own changes, and each of its reads found what
-/// the opening has, or what a change of another transaction left, which may have aborted or changed the key again.
-pub fn is_read_uncommitted(alloc: Global, log: &Log) -> Result<bool, NoMemory>
-    ensures { IfOk result (λ yes. yes ≡ is_so log.now) }
+/// A read of a transaction that is known to have committed which found what was never there: what neither the opening has nor a
+/// change of another transaction left, which may have aborted or changed the key again.
+pub fn find_lost(alloc: Global, log: &Log) -> Result<Option<(usize, Place)>, NoMemory>
+    ensures none { IfOk result (λ found. IfNone found (AreFound log.now)) }
+    ensures some { IfOk result (λ found. IfSome found (λ lost. IsLostThere log.now lost.0 lost.1)) }
 {
     let rows = by_key(alloc, log.rows.as_slice())?;
     let changers = changers_of(alloc, log)?;
     for t in 0..log.transactions.len() {
-        if !is_right(log, &rows, &changers, t) {
-            return Ok(false);
+        if let Some(place) = lost_of(alloc, log, &rows, &changers, t)? {
+            return Ok(Some((t, place)));
         }
     }
-    Ok(true)
+    Ok(None)
+}
+
+/// A transaction without its reads and writes.
+fn bare_of(alloc: Global, transaction: &Transaction) -> Result<Transaction, NoMemory>
+    ensures { IfOk result (λ bare. IsBareOf (Some transaction.now) (Some bare)) }
+{
+    Ok(Transaction {
+        status: transaction.status,
+        fits: true,
+        turns: transaction.turns.clone()?,
+        reads: Vec::new(alloc),
+        scans: Vec::new(alloc),
+        writes: Vec::new(alloc),
+        passing: Vec::new(alloc),
+    })
+}
+
+/// A log without its reads and writes: only the turns are left of it.
+pub fn bare(alloc: Global, log: &Log) -> Result<Log, NoMemory>
+    ensures { IfOk result (λ bare. IsBare log.now bare) }
+{
+    let mut transactions = Vec::new(alloc);
+    for n in 0..log.transactions.len() {
+        transactions.push(bare_of(alloc, &log.transactions[n])?)?;
+    }
+    Ok(Log {
+        rows: Vec::new(alloc),
+        transactions,
+    })
 }

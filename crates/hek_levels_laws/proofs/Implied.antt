@@ -1,22 +1,22 @@
 -- What one level sees, another sees.
-use Rattle.std.proofs.Common.{◌≡◌, ℕ, ◌<◌, true, false, List, [], ◌∷◌, Some, refl, subst, inl, inr, ◌⊎◌}
+use Rattle.std.proofs.Common.{◌≡◌, ℕ, ◌<◌, true, false, List, [], ◌∷◌, refl, subst, inl, inr}
 use Rattle.hek_levels.specs.declared.log.Log.{Log}
-use Rattle.hek_levels.specs.declared.log.Read.{Read}
 use Rattle.hek_levels.specs.declared.rules.Rules.{Rules}
+use Rattle.hek_levels.specs.declared.rules.Asked.{Asked}
+use Rattle.hek_levels.specs.declared.rules.Asked.TheVariants as asked
 use Rattle.hek_levels.specs.declared.rules.Links.{Links}
-use Rattle.hek_levels.specs.declared.rules.Level.TheVariants.{ReadCommitted, MonotonicView, ReadAtomic, Causal, ParallelSnapshot, Snapshot, Serializable}
+use Rattle.hek_levels.specs.declared.rules.Level.TheVariants.{ReadCommitted, MonotonicView, ReadAtomic, Causal, Prefix, ParallelSnapshot, Snapshot, Serializable}
 use Rattle.hek_levels.specs.declared.certificate.Writer.{Writer}
 use Rattle.hek_levels.specs.declared.certificate.Writer.TheVariants as writer
-use Rattle.hek_levels.specs.Logs.{read_at}
-use Rattle.hek_levels.specs.Seen.{Explanation, TakesPlace, rank, ReadsFrom, ReadBefore, SeesByOwn, IsLinked, SeesFirst, Shows, SeesBy, Sees, IsOrdered}
+use Rattle.hek_levels.specs.Seen.{Explanation, TakesPlace, rank, ReadsFrom, ReadsTo, SeesByOwn, IsLinked, SeesFirst, Shows, SeesBy, Sees, IsOrdered}
 use Rattle.hek_levels.specs.Explanations.{Explains}
 use Rattle.hek_levels.specs.Levels.{rules_of, rules_for, all_four}
-use Rattle.hek_levels_laws.specs.Laws.{Implies, LevelsImply, SessionsImply, GuaranteesImply}
+use Rattle.hek_levels_laws.specs.Laws.{Implies, LevelsImply, GuaranteesImply}
 use Rattle.hek_levels.proofs.Earlier.{seen-earlier}
 
 -- an explanation is ordered
-pub ordered : (rules : Rules) (log : Log) (e : Explanation) → Explains rules log e → IsOrdered log e
-ordered rules log e x = record {
+pub ordered : (ask : Asked) (log : Log) (e : Explanation) → Explains ask log e → IsOrdered log e
+ordered ask log e x = record {
   once = x.once;
   back = (λ t r read y o there is.
       let b = (x.sources t r read o there).before in
@@ -24,31 +24,31 @@ ordered rules log e x = record {
 }
 
 -- where all that the weak rules see is seen by the strong, what explains by these explains by those
-weakened : (strong weak : Rules) (log : Log) (e : Explanation) → (weak.sessions ≡ true → strong.sessions ≡ true) →
-    ((t r : ℕ) (read : Read) (y : ℕ) → TakesPlace e t → read_at log t r ≡ Some read → Sees weak log e t r read y → Sees strong log e t r read y) → Explains strong log e → Explains weak log e
-weakened strong weak log e bind sees x = record {
+weakened : (strong weak : Rules) (log : Log) (e : Explanation) →
+    ((t n y : ℕ) → TakesPlace e t → Sees weak log e t n y → Sees strong log e t n y) → Explains (asked.All strong) log e → Explains (asked.All weak) log e
+weakened strong weak log e sees x = record {
   possible = x.possible;
   once = x.once;
   committed = x.committed;
   sources = x.sources;
-  sessions = (λ on. x.sessions (bind on));
-  newest = (λ t r read y o there s does. x.newest t r read y o there (sees t r read y o there s) does);
+  turns = x.turns;
+  newest = (λ t r read y o there s does. x.newest t r read y o there (sees t read.operation y o s) does);
 }
 
 -- step by step
-module _ (strong weak : Rules) (log : Log) (e : Explanation) (t r : ℕ) (read : Read)
-    (first : (y : ℕ) → SeesFirst weak log e t r read y → Sees strong log e t r read y)
-    (shows : (z y : ℕ) → Sees strong log e t r read z → Shows weak log e z y → Sees strong log e t r read y) where
-  sees_by : (ys : List ℕ) (y : ℕ) → SeesBy weak log e t r read ys y → Sees strong log e t r read y
+module _ (strong weak : Rules) (log : Log) (e : Explanation) (t n : ℕ)
+    (first : (y : ℕ) → SeesFirst weak log e t n y → Sees strong log e t n y)
+    (shows : (z y : ℕ) → Sees strong log e t n z → Shows weak log e z y → Sees strong log e t n y) where
+  sees_by : (ys : List ℕ) (y : ℕ) → SeesBy weak log e t n ys y → Sees strong log e t n y
   sees_by [] y s = first y s
   sees_by (z ∷ zs) y s = shows z y (sees_by zs z s.1) s.0
 
-  sees_so : (y : ℕ) → Sees weak log e t r read y → Sees strong log e t r read y
+  sees_so : (y : ℕ) → Sees weak log e t n y → Sees strong log e t n y
   sees_so y s = sees_by s.0 y s.1
 
 -- links of which each is one of others
 abbrev AreWithin : Links → Links → Type 0
-AreWithin few more = (few.writers ≡ true → more.writers ≡ true) × (few.session ≡ true → more.session ≡ true) × (few.session_reads ≡ true → more.session_reads ≡ true)
+AreWithin few more = (few.writers ≡ true → more.writers ≡ true) × (few.turns ≡ true → more.turns ≡ true) × (few.turn_reads ≡ true → more.turn_reads ≡ true)
 
 linked_within : (few more : Links) (log : Log) (e : Explanation) (y x : ℕ) → AreWithin few more → IsLinked few log e y x → IsLinked more log e y x
 linked_within few more log e y x w l =
@@ -58,18 +58,18 @@ linked_within few more log e y x w l =
     ]
 
 -- rules of which each is one of others
-within : (strong weak : Rules) → (weak.sessions ≡ true → strong.sessions ≡ true) → (weak.whole ≡ true → strong.whole ≡ true) →
-    ((log : Log) (e : Explanation) (t r : ℕ) (read : Read) (y : ℕ) → read_at log t r ≡ Some read → SeesByOwn weak.own log e t r read.operation y → SeesByOwn strong.own log e t r read.operation y) →
+within : (strong weak : Rules) → (weak.whole ≡ true → strong.whole ≡ true) →
+    ((log : Log) (e : Explanation) (t n y : ℕ) → SeesByOwn weak.own log e t n y → SeesByOwn strong.own log e t n y) →
     AreWithin weak.first strong.first → (weak.prefix ≡ true → strong.prefix ≡ true) → (weak.causes ≡ true → strong.causes ≡ true) → AreWithin weak.next strong.next → Implies strong weak
-within strong weak bind all own first before causes next log e x =
-    weakened strong weak log e bind
-    (λ t r read y o there s.
-    sees_so strong weak log e t r read
+within strong weak all own first before causes next log e x =
+    weakened strong weak log e
+    (λ t n y o s.
+    sees_so strong weak log e t n
     (λ z f. (
       [],
       elim f [
         | inl a ↦ inl (all a.0, a.1)
-        | inr other ↦ elim other [ inl b ↦ inr (inl (own log e t r read z there b)) | inr c ↦ inr (inr (linked_within weak.first strong.first log e t z first c)) ]
+        | inr other ↦ elim other [ inl b ↦ inr (inl (own log e t n z b)) | inr c ↦ inr (inr (linked_within weak.first strong.first log e t z first c)) ]
       ],
     ))
     (λ z w seen f. (
@@ -88,49 +88,45 @@ same_links : (links : Links) → AreWithin links links
 same_links links = (λ a. a, λ a. a, λ a. a)
 
 -- rules that see the whole see what any see
-whole_implies : (strong weak : Rules) → strong.whole ≡ true → (weak.sessions ≡ true → strong.sessions ≡ true) → Implies strong weak
-whole_implies strong weak on bind log e x =
-    weakened strong weak log e bind (λ t r read y o there s. ([], inl (on, seen-earlier log e (ordered strong log e x) weak t r read y o there s))) x
+whole_implies : (strong weak : Rules) → strong.whole ≡ true → Implies strong weak
+whole_implies strong weak on log e x =
+    weakened strong weak log e (λ t n y o s. ([], inl (on, seen-earlier log e (ordered (asked.All strong) log e x) weak t n y o s))) x
 
 never : {A : Type 0} → false ≡ true → A
 never e = absurd (let f : ⊥ = cc in f)
 
-earlier_is_own : (log : Log) (e : Explanation) (t r : ℕ) (read : Read) (y : ℕ) → read_at log t r ≡ Some read →
-    (e.source t r ≡ writer.Transaction y) ⊎ ReadBefore log e t read.operation y → ReadsFrom log e t y
-earlier_is_own log e t r read y there s = elim s [ inl is ↦ (r, read, there, is) | inr b ↦ (b.0, b.1, b.2, b.4) ]
+to_is_own : (log : Log) (e : Explanation) (t n y : ℕ) → ReadsTo log e t n y → ReadsFrom log e t y
+to_is_own log e t n y s = (s.0, s.1, s.2, s.4)
 
 pub levels_imply : LevelsImply
 levels_imply = record {
-  serializable = (λ bind. whole_implies (rules_of Serializable bind) (rules_of Snapshot bind) refl (λ on. on));
-  snapshot = (λ bind.
-      within (rules_of Snapshot bind) (rules_of ParallelSnapshot bind) (λ on. on) (λ on. never on) (λ log e t r read y there s. s)
-      (same_links _) (λ on. never on) (λ on. on) (same_links _));
-  parallel_snapshot = (λ bind.
-      within (rules_of ParallelSnapshot bind) (rules_of Causal bind) (λ on. on) (λ on. never on) (λ log e t r read y there s. s)
-      (λ on. refl, λ on. on, λ on. on) (λ on. on) (λ on. on) (λ on. refl, λ on. on, λ on. on));
-  causal = (λ bind.
-      within (rules_of Causal bind) (rules_of ReadAtomic bind) (λ on. on) (λ on. never on) (λ log e t r read y there s. s)
-      (λ on. on, λ on. on, λ on. on) (λ on. on) (λ on. refl) (λ on. on, λ on. never on, λ on. on));
-  read_atomic = (λ bind.
-      within (rules_of ReadAtomic bind) (rules_of MonotonicView bind) (λ on. on) (λ on. never on) earlier_is_own
-      (λ on. on, λ on. never on, λ on. on) (λ on. on) (λ on. on) (λ on. on, λ on. on, λ on. on));
-  monotonic_view = (λ bind.
-      within (rules_of MonotonicView bind) (rules_of ReadCommitted bind) (λ on. on) (λ on. never on) (λ log e t r read y there s. absurd s)
-      (λ on. on, λ on. on, λ on. on) (λ on. on) (λ on. on) (λ on. on, λ on. on, λ on. on));
+  serializable = whole_implies (rules_of Serializable) (rules_of Snapshot) refl;
+  snapshot =
+      within (rules_of Snapshot) (rules_of Prefix) (λ on. never on) (λ log e t n y s. s)
+      (λ on. never on, λ on. on, λ on. never on) (λ on. on) (λ on. on) (λ on. never on, λ on. on, λ on. never on);
+  snapshot_too =
+      within (rules_of Snapshot) (rules_of ParallelSnapshot) (λ on. never on) (λ log e t n y s. s)
+      (same_links _) (λ on. never on) (λ on. on) (same_links _);
+  prefix =
+      within (rules_of Prefix) (rules_of Causal) (λ on. never on) (λ log e t n y s. s)
+      (same_links _) (λ on. never on) (λ on. on) (same_links _);
+  parallel_snapshot =
+      within (rules_of ParallelSnapshot) (rules_of Causal) (λ on. never on) (λ log e t n y s. s)
+      (λ on. refl, λ on. on, λ on. on) (λ on. on) (λ on. on) (λ on. refl, λ on. on, λ on. on);
+  causal =
+      within (rules_of Causal) (rules_of ReadAtomic) (λ on. never on) (λ log e t n y s. s)
+      (λ on. on, λ on. on, λ on. on) (λ on. on) (λ on. refl) (λ on. on, λ on. never on, λ on. on);
+  read_atomic =
+      within (rules_of ReadAtomic) (rules_of MonotonicView) (λ on. never on) to_is_own
+      (λ on. on, λ on. never on, λ on. on) (λ on. on) (λ on. on) (λ on. on, λ on. on, λ on. on);
+  monotonic_view =
+      within (rules_of MonotonicView) (rules_of ReadCommitted) (λ on. never on) (λ log e t n y s. absurd s)
+      (λ on. on, λ on. on, λ on. on) (λ on. on) (λ on. on) (λ on. on, λ on. on, λ on. on);
 }
 
-pub sessions_imply : SessionsImply
-sessions_imply ReadCommitted = within (rules_of ReadCommitted true) (rules_of ReadCommitted false) (λ on. refl) (λ on. on) (λ log e t r read y there s. s) (same_links _) (λ on. on) (λ on. on) (same_links _)
-sessions_imply MonotonicView = within (rules_of MonotonicView true) (rules_of MonotonicView false) (λ on. refl) (λ on. on) (λ log e t r read y there s. s) (same_links _) (λ on. on) (λ on. on) (same_links _)
-sessions_imply ReadAtomic = within (rules_of ReadAtomic true) (rules_of ReadAtomic false) (λ on. refl) (λ on. on) (λ log e t r read y there s. s) (λ on. on, λ on. refl, λ on. on) (λ on. on) (λ on. on) (same_links _)
-sessions_imply Causal = within (rules_of Causal true) (rules_of Causal false) (λ on. refl) (λ on. on) (λ log e t r read y there s. s) (λ on. on, λ on. refl, λ on. on) (λ on. on) (λ on. on) (λ on. on, λ on. refl, λ on. on)
-sessions_imply ParallelSnapshot = within (rules_of ParallelSnapshot true) (rules_of ParallelSnapshot false) (λ on. refl) (λ on. on) (λ log e t r read y there s. s) (λ on. on, λ on. refl, λ on. on) (λ on. on) (λ on. on) (λ on. on, λ on. refl, λ on. on)
-sessions_imply Snapshot = within (rules_of Snapshot true) (rules_of Snapshot false) (λ on. refl) (λ on. on) (λ log e t r read y there s. s) (λ on. on, λ on. refl, λ on. on) (λ on. on) (λ on. on) (λ on. on, λ on. refl, λ on. on)
-sessions_imply Serializable = within (rules_of Serializable true) (rules_of Serializable false) (λ on. refl) (λ on. on) (λ log e t r read y there s. s) (same_links _) (λ on. on) (λ on. on) (same_links _)
-
--- what a session brings is seen in two steps
-carried : (log : Log) (e : Explanation) (t r : ℕ) (read : Read) (z y : ℕ) → Sees (rules_of Causal true) log e t r read z → IsLinked (rules_for all_four).next log e z y → Sees (rules_of Causal true) log e t r read y
-carried log e t r read z y seen l =
+-- what turns bring is seen in two steps
+carried : (log : Log) (e : Explanation) (t n z y : ℕ) → Sees (rules_of Causal) log e t n z → IsLinked (rules_for all_four).next log e z y → Sees (rules_of Causal) log e t n y
+carried log e t n z y seen l =
     elim l [
       | inl a ↦ never a.0
       | inr other ↦
@@ -140,8 +136,8 @@ carried log e t r read z y seen l =
           ]
     ]
 
-carried_first : (log : Log) (e : Explanation) (t r : ℕ) (read : Read) (y : ℕ) → IsLinked (rules_for all_four).first log e t y → Sees (rules_of Causal true) log e t r read y
-carried_first log e t r read y l =
+carried_first : (log : Log) (e : Explanation) (t n y : ℕ) → IsLinked (rules_for all_four).first log e t y → Sees (rules_of Causal) log e t n y
+carried_first log e t n y l =
     elim l [
       | inl a ↦ never a.0
       | inr other ↦
@@ -151,20 +147,20 @@ carried_first log e t r read y l =
           ]
     ]
 
-four : Implies (rules_of Causal true) (rules_for all_four)
+four : Implies (rules_of Causal) (rules_for all_four)
 four log e x =
-    weakened (rules_of Causal true) (rules_for all_four) log e (λ on. refl)
-    (λ t r read y o there s.
-    sees_so (rules_of Causal true) (rules_for all_four) log e t r read
+    weakened (rules_of Causal) (rules_for all_four) log e
+    (λ t n y o s.
+    sees_so (rules_of Causal) (rules_for all_four) log e t n
     (λ z f.
     elim f [
       | inl a ↦ never a.0
-      | inr other ↦ elim other [ inl b ↦ ([], inr (inl (earlier_is_own log e t r read z there b))) | inr c ↦ carried_first log e t r read z c ]
+      | inr other ↦ elim other [ inl b ↦ ([], inr (inl (to_is_own log e t n z b))) | inr c ↦ carried_first log e t n z c ]
     ])
     (λ z w seen f.
     elim f [
       | inl p ↦ never p.0
-      | inr by ↦ elim by [ inl a ↦ (z ∷ seen.0, (inr (inl (refl, a.1)), seen.1)) | inr c ↦ carried log e t r read z w seen c ]
+      | inr by ↦ elim by [ inl a ↦ (z ∷ seen.0, (inr (inl (refl, a.1)), seen.1)) | inr c ↦ carried log e t n z w seen c ]
     ])
     y s) x
 
@@ -172,9 +168,9 @@ pub guarantees_imply : GuaranteesImply
 guarantees_imply = record {
   causal = four;
   each = (λ g.
-      within (rules_for all_four) (rules_for g) (λ on. on) (λ on. on) (λ log e t r read y there s. s)
+      within (rules_for all_four) (rules_for g) (λ on. on) (λ log e t n y s. s)
       (λ on. on, λ on. refl, λ on. refl) (λ on. on) (λ on. refl) (λ on. on, λ on. refl, λ on. refl));
   monotonic_view = (λ g.
-      within (rules_for g) (rules_of MonotonicView true) (λ on. on) (λ on. on) (λ log e t r read y there s. s)
+      within (rules_for g) (rules_of MonotonicView) (λ on. on) (λ log e t n y s. s)
       (λ on. on, λ on. never on, λ on. never on) (λ on. on) (λ on. never on) (λ on. on, λ on. never on, λ on. never on));
 }

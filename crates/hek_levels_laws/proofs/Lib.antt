@@ -1,2 +1,4 @@
 pub mod Implied
+pub mod Fewer
+pub mod Bare
 pub mod Uncommitted

@@ -1,5 +1,5 @@
--- What is computed of read uncommitted, in other words.
-use Rattle.std.proofs.Common.{◌≡◌, ◌==◌, ◌<◌, ℕ, zero, suc, true, false, Bool, List, [], ◌∷◌, ◌++◌, Option, Some, None, refl, sym, ap, ◌∙◌, subst, inl, inr, length, arith}
+-- What was at some time there, in other words.
+use Rattle.std.proofs.Common.{◌≡◌, ◌==◌, ◌<◌, ℕ, zero, suc, true, false, Bool, cond, List, [], ◌∷◌, ◌++◌, Option, Some, None, refl, sym, ap, ◌∙◌, subst, inl, inr, length, arith}
 use Rattle.std.specs.Prelude.{not, ◌&&◌, ◌||◌, slice_get}
 use Rattle.std.proofs.lemmas.Bool.{cases_Bool, eqb-true, eqb-false, eq-eqb, ne_eqb, or_cases, or_left, or_right, and_parts, and_from, not_from_false}
 use Rattle.std.proofs.lemmas.Option.{slice_get_within}
@@ -10,11 +10,11 @@ use Rattle.hek_levels.specs.declared.log.Change.{Change}
 use Rattle.hek_levels.specs.declared.log.Transaction.{Transaction}
 use Rattle.hek_levels.specs.declared.certificate.Writer.{Writer}
 use Rattle.hek_levels.specs.declared.certificate.Writer.TheVariants as writer
-use Rattle.hek_levels.specs.Logs.{meets, meets_in, left_in, offers, transaction, reads_of, writes_in, writes_of, is_committed, is_possible}
+use Rattle.hek_levels.specs.Logs.{meets, meets_in, left_in, offers, transaction, writes_in, writes_of, possible_in, aborted_by}
 use Rattle.hek_levels.specs.Seen.{Explanation, rank}
-use Rattle.hek_levels.specs.Uncommitted.{passing_in, passing_of, does_meet, is_met_in, did_leave, did_other_leave, is_found, are_found, is_right, are_right, is_read_uncommitted, DidLeave, IsFound, IsReadUncommitted}
-use Rattle.hek_levels.proofs.Marks.{committed_within}
-use Rattle.hek_levels_laws.specs.Laws.{ExplainedIsReadUncommitted, ReadUncommittedSays}
+use Rattle.hek_levels.specs.Uncommitted.{passing_in, passing_of, does_meet, is_met_in, did_leave, did_other_leave, is_found, alive_in}
+use Rattle.hek_levels.proofs.Orders.{placed}
+use Rattle.hek_levels_laws.specs.Laws.{DidLeave, IsFound, ExplainedIsReadUncommitted, FoundSays}
 
 -- ---- changes that meet a need
 
@@ -107,57 +107,8 @@ found_then log t read f =
       | inr other ↦ or_right _ _ (other_then log t read other.0 (length log.transactions.items) (left_within log other.0 read other.2) other.1 (left_then log other.0 read other.2))
     ]
 
--- ---- all reads, and all transactions
-
-all_found_so : (log : Log) (t : ℕ) (reads : List Read) → are_found log t reads ≡ true → (r : ℕ) (read : Read) → slice_get reads r ≡ Some read → is_found log t read ≡ true
-all_found_so log t [] e r read there = cc
-all_found_so log t (x ∷ reads) e zero read there = subst (λ (y : Read). is_found log t y ≡ true) (one_read x read there) (and_parts (is_found log t x) (are_found log t reads) e).0
-  where
-    one_read : (a b : Read) → ◌≡◌ {A = Option Read} (Some a) (Some b) → a ≡ b
-    one_read a b e = cc
-all_found_so log t (x ∷ reads) e (suc r) read there = all_found_so log t reads (and_parts (is_found log t x) (are_found log t reads) e).1 r read there
-
-all_found_then : (log : Log) (t : ℕ) (reads : List Read) → ((r : ℕ) (read : Read) → slice_get reads r ≡ Some read → is_found log t read ≡ true) → are_found log t reads ≡ true
-all_found_then log t [] all = refl
-all_found_then log t (x ∷ reads) all = and_from (is_found log t x) (are_found log t reads) (all zero x refl) (all_found_then log t reads (λ r read there. all (suc r) read there))
-
-right_so : (log : Log) (t n : ℕ) → are_right log n ≡ true → t < n → is_right log t ≡ true
-right_so log t zero e l = absurd (omega (arith, l))
-right_so log t (suc n) e l =
-    let p = and_parts (are_right log n) (is_right log n) e in
-    elim (cases_Bool (t == n)) [
-      | inl same ↦ subst (λ (m : ℕ). is_right log m ≡ true) (sym (eqb-true t n same)) p.1
-      | inr differ ↦ right_so log t n p.0 (let apart = eqb-false t n differ in below_other t n l apart)
-    ]
-  where
-    below_other : (x n : ℕ) → x < suc n → (x ≡ n → ⊥) → x < n
-    below_other x n l apart = omega arith
-
-right_then : (log : Log) → ((t : ℕ) → is_right log t ≡ true) → (n : ℕ) → are_right log n ≡ true
-right_then log all zero = refl
-right_then log all (suc n) = and_from (are_right log n) (is_right log n) (right_then log all n) (all n)
-
-says_so : (log : Log) → is_read_uncommitted log ≡ true → IsReadUncommitted log
-says_so log e = record { fits = (λ t k. (parts t k).0); found = (λ t r read k there. found_so log t read (all_found_so log t (reads_of log t) (parts t k).1 r read there)) }
-  where
-    parts : (t : ℕ) → is_committed log t ≡ true → (is_possible log t ≡ true) × (are_found log t (reads_of log t) ≡ true)
-    parts t k =
-        let right = right_so log t (length log.transactions.items) e (committed_within log t k) in
-        let both : (is_possible log t && are_found log t (reads_of log t)) ≡ true = rw k at right in
-        and_parts (is_possible log t) (are_found log t (reads_of log t)) both
-
-says_then : (log : Log) → IsReadUncommitted log → is_read_uncommitted log ≡ true
-says_then log so = right_then log right (length log.transactions.items)
-  where
-    right : (t : ℕ) → is_right log t ≡ true
-    right t =
-        elim (cases_Bool (is_committed log t)) [
-          | inr other ↦ rw other refl
-          | inl k ↦ rw k (and_from (is_possible log t) (are_found log t (reads_of log t)) (so.fits t k) (all_found_then log t (reads_of log t) (λ r read there. found_then log t read (so.found t r read k there))))
-        ]
-
-pub says : ReadUncommittedSays
-says log = (says_so log, says_then log)
+pub says : FoundSays
+says log t read = (found_so log t read, found_then log t read)
 
 -- ---- an explanation
 
@@ -177,8 +128,29 @@ source_found log e t read (writer.Transaction x) o l =
     not_before : x ≡ t → ⊥
     not_before same = let k = ap (λ (n : ℕ). rank e.order (writer.Transaction n)) same in omega arith
 
+-- who may take place did not abort
+possible-alive : (o : Option Transaction) → possible_in o ≡ true → alive_in o ≡ true
+possible-alive None e = cc
+possible-alive (Some x) e = go (aborted_by x.status) e
+  where
+    go : (b : Bool) → cond b false x.fits ≡ true → not b ≡ true
+    go true f = cc
+    go false f = refl
+
 pub explained_is_so : ExplainedIsReadUncommitted
-explained_is_so rules log e x = says_then log (record {
-  fits = (λ t k. let o = x.committed t k in x.possible o.0 t o.1);
-  found = (λ t r read k there. let s = x.sources t r read (x.committed t k) there in source_found log e t read (e.source t r) s.offered s.before);
-})
+explained_is_so asked log e x = (
+  λ t k r read there. let s = x.sources t r read (x.committed t k) there in found_then log t read (source_found log e t read (e.source t r) s.offered s.before),
+  (
+    e.order,
+    record {
+      alive = (λ i t a. possible-alive (transaction log t) (x.possible i t a));
+      once = x.once;
+      committed = x.committed;
+      turns = (λ i j y t a b kept.
+          let l = x.turns y t kept (i, a) (j, b) in
+          let first = placed e.order x.once i y a in
+          let second = placed e.order x.once j t b in
+          omega arith);
+    },
+  ),
+)

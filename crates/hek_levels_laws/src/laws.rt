@@ -1,18 +1,18 @@
 //! Laws of levels, as contracts of functions that do nothing.
-ghost use Rattle.hek_levels_laws.specs.Laws.{LevelsImply, SessionsImply, GuaranteesImply, ExplainedIsReadUncommitted, ReadUncommittedSays};
+ghost use Rattle.hek_levels_laws.specs.Laws.{LevelsImply, FewerTurnsImply, GuaranteesImply, ExplainedIsReadUncommitted, FoundSays, BareSays};
 
-/// Serializable implies snapshot, this parallel snapshot, this causal, this read atomic, this the monotonic view, and this read committed, by
-/// one explanation, whether or not sessions bind.
+/// Serializable implies snapshot, this prefix and parallel snapshot, each of these causal, this read atomic, this the monotonic view, and
+/// this read committed, by one explanation.
 pub fn levels_imply()
     ensures { LevelsImply }
 {}
 
-/// Each level with sessions implies itself without.
-pub fn sessions_imply()
-    ensures { SessionsImply }
+/// What explains a log explains it with fewer turns: without sessions, without real time, or without versions.
+pub fn fewer_turns_imply()
+    ensures { FewerTurnsImply }
 {}
 
-/// Causal with sessions implies all four guarantees, and each of these the monotonic view with sessions.
+/// Causal implies all four guarantees, and each of these the monotonic view.
 pub fn guarantees_imply()
     ensures { GuaranteesImply }
 {}
@@ -22,8 +22,12 @@ pub fn explained_is_read_uncommitted()
     ensures { ExplainedIsReadUncommitted }
 {}
 
-/// A log is read uncommitted just if whoever is known to have committed fits its own changes, and found what the opening has or
-/// what a change of another transaction left.
-pub fn read_uncommitted_says()
-    ensures { ReadUncommittedSays }
+/// What a read found was at some time there just if the opening has it or a change of another transaction left it.
+pub fn found_says()
+    ensures { FoundSays }
+{}
+
+/// An order keeps the turns of a log just if its bare log has an explanation.
+pub fn bare_says()
+    ensures { BareSays }
 {}

@@ -4,6 +4,6 @@
 mod laws;
 
 pub use laws::{
-    explained_is_read_uncommitted, guarantees_imply, levels_imply, read_uncommitted_says,
-    sessions_imply,
+    bare_says, explained_is_read_uncommitted, fewer_turns_imply, found_says, guarantees_imply,
+    levels_imply,
 };

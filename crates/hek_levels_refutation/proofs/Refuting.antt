@@ -6,14 +6,16 @@ use Rattle.std.specs.Prelude.{slice_get, not, IfSome}
 use Rattle.hek_levels.specs.declared.log.Log.{Log}
 use Rattle.hek_levels.specs.declared.log.Read.{Read}
 use Rattle.hek_levels.specs.declared.log.Transaction.{Transaction}
-use Rattle.hek_levels.specs.declared.rules.Rules.{Rules}
+use Rattle.hek_levels.specs.declared.log.Place.{Place}
+use Rattle.hek_levels.specs.declared.rules.Asked.{Asked}
+use Rattle.hek_levels.specs.Levels.{asked_of}
 use Rattle.hek_levels.specs.declared.certificate.Writer.{Writer}
 use Rattle.hek_levels.specs.declared.certificate.Writer.TheVariants as writer
 use Rattle.hek_levels.specs.Logs.{read_at, is_possible, possible_in, does_write}
 use Rattle.hek_levels.specs.Seen.{Explanation, TakesPlace, rank, IsBefore, Sees}
 use Rattle.hek_levels.specs.Explanations.{Explains}
 use Rattle.hek_levels_refutation.specs.Claims.{number_of}
-use Rattle.hek_levels_refutation.specs.Candidates.{MayWrite, IsCandidate, IsNoneBetween, IsNoneFrom}
+use Rattle.hek_levels_refutation.specs.Candidates.{MayWrite, IsCandidate, IsNoneBetween}
 use Rattle.hek_levels.proofs.Orders.{takes, rank-injective, cases_below}
 
 -- ---- numbers of writers
@@ -42,43 +44,60 @@ none_more log t read from n w is before here v low high c =
       | inr same ↦ here (subst (IsCandidate log t read) (number-injective v w (same ∙ sym is)) c)
     ]
 
-pub none_all : (log : Log) (t : ℕ) (read : Read) (from : ℕ) → IsNoneBetween log t read from (length log.transactions.items + 1) → IsNoneFrom log t read from
-none_all log t read from none w low c = none w low (number_within log t w c.0) c
+-- a number of a candidate is below that of all writers
+pub candidate_within : (log : Log) (t : ℕ) (read : Read) (w : Writer) → IsCandidate log t read w → number_of w < length log.transactions.items + 1
+candidate_within log t read w c = number_within log t w c.0
 
-module _ (rules : Rules) (log : Log) (e : Explanation) (x : Explains rules log e) where
+module _ (asked : Asked) (log : Log) (e : Explanation) (x : Explains asked log e) where
   may_write : (t : ℕ) → TakesPlace e t → (w : Writer) → rank e.order w < rank e.order (writer.Transaction t) → MayWrite log t w
   may_write t o writer.Opening l = tt
   may_write t o (writer.Transaction y) l = let k = takes e y t l o in (x.possible k.0 y k.1, λ same. let b : IsBefore e t t = subst (λ (n : ℕ). IsBefore e n t) same l in omega arith)
 
-  pub candidate : (t r : ℕ) (read : Read) → TakesPlace e t → read_at log t r ≡ Some read → IsCandidate log t read (e.source t r)
+  pub candidate : (t : ℕ) (r : Place) (read : Read) → TakesPlace e t → read_at log t r ≡ Some read → IsCandidate log t read (e.source t r)
   candidate t r read o there = let s = x.sources t r read o there in (may_write t o (e.source t r) s.before, s.offered)
 
-  pub skipped : (t r : ℕ) (read : Read) (from to : ℕ) → TakesPlace e t → read_at log t r ≡ Some read → from ≤ number_of (e.source t r) → IsNoneBetween log t read from to → to ≤ number_of (e.source t r)
+  -- all candidates are below the number of writers
+  pub started : (t : ℕ) (r : Place) (read : Read) → TakesPlace e t → read_at log t r ≡ Some read → number_of (e.source t r) < length log.transactions.items + 1
+  started t r read o there = candidate_within log t read (e.source t r) (candidate t r read o there)
+
+  pub skipped : (t : ℕ) (r : Place) (read : Read) (from to : ℕ) → TakesPlace e t → read_at log t r ≡ Some read → from ≤ number_of (e.source t r) → IsNoneBetween log t read from to → to ≤ number_of (e.source t r)
   skipped t r read from to o there low none =
       elim (cases_lt (number_of (e.source t r)) to) [ inl less ↦ absurd (none (e.source t r) low less (candidate t r read o there)) | inr ge ↦ ge ]
 
-  pub only_one : (t r : ℕ) (read : Read) (from : ℕ) (w : Writer) → number_of w ≡ from → TakesPlace e t → read_at log t r ≡ Some read → from ≤ number_of (e.source t r) → IsNoneFrom log t read (from + 1) → e.source t r ≡ w
-  only_one t r read from w is o there low none =
+  pub skipped_back : (t : ℕ) (r : Place) (read : Read) (from to : ℕ) → TakesPlace e t → read_at log t r ≡ Some read → number_of (e.source t r) < to → IsNoneBetween log t read from to → number_of (e.source t r) < from
+  skipped_back t r read from to o there high none =
+      elim (cases_lt (number_of (e.source t r)) from) [ inl less ↦ less | inr ge ↦ absurd (none (e.source t r) ge high (candidate t r read o there)) ]
+
+  pub only_one : (t : ℕ) (r : Place) (read : Read) (from to : ℕ) (w : Writer) → number_of w ≡ from → TakesPlace e t → read_at log t r ≡ Some read → from ≤ number_of (e.source t r) → number_of (e.source t r) < to →
+      IsNoneBetween log t read (from + 1) to → e.source t r ≡ w
+  only_one t r read from to w is o there low high none =
       elim (cases_lt from (number_of (e.source t r))) [
-        | inl less ↦ absurd (none (e.source t r) (omega arith) (candidate t r read o there))
+        | inl less ↦ absurd (none (e.source t r) (omega arith) high (candidate t r read o there))
         | inr ge ↦ let same : number_of (e.source t r) ≡ number_of w = omega arith in number-injective (e.source t r) w same
       ]
 
-  pub none_left : (t r : ℕ) (read : Read) (from : ℕ) → TakesPlace e t → read_at log t r ≡ Some read → from ≤ number_of (e.source t r) → IsNoneFrom log t read from → ⊥
-  none_left t r read from o there low none = none (e.source t r) low (candidate t r read o there)
+  pub none_left : (t : ℕ) (r : Place) (read : Read) (from to : ℕ) → TakesPlace e t → read_at log t r ≡ Some read → from ≤ number_of (e.source t r) → number_of (e.source t r) < to → IsNoneBetween log t read from to → ⊥
+  none_left t r read from to o there low high none = none (e.source t r) low high (candidate t r read o there)
 
-  pub dropped : (t r : ℕ) (from : ℕ) (w : Writer) → number_of w ≡ from → from ≤ number_of (e.source t r) → (e.source t r ≡ w → ⊥) → from + 1 ≤ number_of (e.source t r)
-  dropped t r from w is low other =
-      elim (cases_lt from (number_of (e.source t r))) [
-        | inl less ↦ omega arith
-        | inr ge ↦ let same : number_of (e.source t r) ≡ number_of w = omega arith in absurd (other (number-injective (e.source t r) w same))
+  pub dropped : (t : ℕ) (r : Place) (from : ℕ) → from ≤ number_of (e.source t r) → (number_of (e.source t r) ≡ from → ⊥) → from + 1 ≤ number_of (e.source t r)
+  dropped t r from low other =
+      elim (cases_order from (number_of (e.source t r))) [
+        | inl same ↦ absurd (other (sym same))
+        | inr differ ↦ elim differ [ inl less ↦ omega arith | inr more ↦ absurd (omega arith) ]
       ]
 
-  pub read-before : (t r : ℕ) (read : Read) (w : Writer) → TakesPlace e t → read_at log t r ≡ Some read → e.source t r ≡ w → rank e.order w < rank e.order (writer.Transaction t)
+  pub dropped_back : (t : ℕ) (r : Place) (end last : ℕ) → last + 1 ≡ end → number_of (e.source t r) < end → (number_of (e.source t r) ≡ last → ⊥) → number_of (e.source t r) < last
+  dropped_back t r end last is high other =
+      elim (cases_order (number_of (e.source t r)) last) [
+        | inl same ↦ absurd (other same)
+        | inr differ ↦ elim differ [ inl less ↦ less | inr more ↦ absurd (omega arith) ]
+      ]
+
+  pub read-before : (t : ℕ) (r : Place) (read : Read) (w : Writer) → TakesPlace e t → read_at log t r ≡ Some read → e.source t r ≡ w → rank e.order w < rank e.order (writer.Transaction t)
   read-before t r read w o there is = subst (λ (v : Writer). rank e.order v < rank e.order (writer.Transaction t)) is (x.sources t r read o there).before
 
   -- a writer that is seen and is not the source
-  pub newest : (t r : ℕ) (read : Read) (y : ℕ) (w : Writer) → TakesPlace e t → read_at log t r ≡ Some read → Sees rules log e t r read y → does_write log y read.key ≡ true → e.source t r ≡ w →
+  pub newest : (t : ℕ) (r : Place) (read : Read) (y : ℕ) (w : Writer) → TakesPlace e t → read_at log t r ≡ Some read → Sees (asked_of asked t) log e t read.operation y → does_write log y read.key ≡ true → e.source t r ≡ w →
       (w ≡ writer.Transaction y → ⊥) → rank e.order (writer.Transaction y) < rank e.order w
   newest t r read y w o there sees does is other =
       let le : rank e.order (writer.Transaction y) ≤ rank e.order w = subst (λ (v : Writer). rank e.order (writer.Transaction y) ≤ rank e.order v) is (x.newest t r read y o there sees does) in
@@ -88,7 +107,7 @@ module _ (rules : Rules) (log : Log) (e : Explanation) (x : Explains rules log e
       ]
 
   -- who is older than a writer that is seen
-  pub older : (t r : ℕ) (read : Read) (y : ℕ) (w : Writer) → TakesPlace e t → read_at log t r ≡ Some read → Sees rules log e t r read y → does_write log y read.key ≡ true →
+  pub older : (t : ℕ) (r : Place) (read : Read) (y : ℕ) (w : Writer) → TakesPlace e t → read_at log t r ≡ Some read → Sees (asked_of asked t) log e t read.operation y → does_write log y read.key ≡ true →
       rank e.order w < rank e.order (writer.Transaction y) → e.source t r ≡ w → ⊥
   older t r read y w o there sees does l is =
       let le : rank e.order (writer.Transaction y) ≤ rank e.order w = subst (λ (v : Writer). rank e.order (writer.Transaction y) ≤ rank e.order v) is (x.newest t r read y o there sees does) in
@@ -111,10 +130,12 @@ if_some (Some a) p f = f a p
 pub as_pair : (e : Explanation) (w v : Writer) (x t : ℕ) → w ≡ writer.Transaction x → v ≡ writer.Transaction t → rank e.order w < rank e.order v → IsBefore e x t
 as_pair e w v x t a b l = let f = ap (rank e.order) a in let g = ap (rank e.order) b in omega (arith, f, g, l)
 
-pub not_first : (e : Explanation) (t r u q : ℕ) (w v : Writer) → u ≡ t → q ≡ r → w ≡ v → (TakesPlace e u → e.source u q ≡ w → ⊥) → TakesPlace e t → e.source t r ≡ v → ⊥
-not_first e t r u q w v a b d never o is = never (subst (TakesPlace e) (sym a) o) (ap (λ (n : ℕ). e.source n q) a ∙ ap (e.source t) b ∙ is ∙ sym d)
+pub not_numbered : (e : Explanation) (t : ℕ) (r : Place) (u : ℕ) (q : Place) (w v : Writer) (n : ℕ) → u ≡ t → q ≡ r → w ≡ v → number_of v ≡ n → (TakesPlace e u → e.source u q ≡ w → ⊥) →
+    TakesPlace e t → number_of (e.source t r) ≡ n → ⊥
+not_numbered e t r u q w v n a b d is never o same =
+    never (subst (TakesPlace e) (sym a) o) (ap (λ (m : ℕ). e.source m q) a ∙ ap (e.source t) b ∙ number-injective (e.source t r) v (same ∙ sym is) ∙ sym d)
 
-pub same_source : (e : Explanation) (t r u q : ℕ) (w : Writer) → t ≡ u → r ≡ q → e.source u q ≡ w → e.source t r ≡ w
+pub same_source : (e : Explanation) (t : ℕ) (r : Place) (u : ℕ) (q : Place) (w : Writer) → t ≡ u → r ≡ q → e.source u q ≡ w → e.source t r ≡ w
 same_source e t r u q w a b is = ap (λ (n : ℕ). e.source n r) a ∙ ap (e.source u) b ∙ is
 
 pub not_false : (b : Bool) → not b ≡ false → b ≡ true

@@ -19,6 +19,3 @@ IsCandidate log t read w = MayWrite log t w × (offers log w read ≡ true)
 -- no candidate has a number from the first on and below the second
 abbrev pub IsNoneBetween : Log → ℕ → Read → ℕ → ℕ → Type 0
 IsNoneBetween log t read from to = (w : Writer) → from ≤ number_of w → number_of w < to → IsCandidate log t read w → ⊥
-
-abbrev pub IsNoneFrom : Log → ℕ → Read → ℕ → Type 0
-IsNoneFrom log t read from = (w : Writer) → from ≤ number_of w → IsCandidate log t read w → ⊥

@@ -1,5 +1,5 @@
 //! What a certificate of a failure is made of.
-use hek_levels::{Log, Rules, Writer};
+use hek_levels::{Asked, Log, Place, Writer};
 
 /// What a step says of an explanation. Transactions that don't take place count as after all others, by their numbers.
 #[derive(Clone, Copy)]
@@ -11,35 +11,36 @@ pub enum Claim {
     },
     /// It takes place.
     Occurs(usize),
-    /// The reader takes place, and the source of its read has this number or a later one: the opening has 0, and the
-    /// transaction x has x + 1.
+    /// The reader takes place, and the source of its read has this number or a later one, below the end: the opening has 0, and
+    /// the transaction x has x + 1.
     From {
         reader: usize,
-        place: usize,
+        place: Place,
         number: usize,
+        end: usize,
     },
     /// The reader takes place, and the writer is the source of its read.
     Source {
         reader: usize,
-        place: usize,
+        place: Place,
         writer: Writer,
     },
     /// If the reader takes place, the writer is not the source of its read.
     Not {
         reader: usize,
-        place: usize,
+        place: Place,
         writer: Writer,
     },
     /// The reader takes place, and its read sees the transaction.
     Visible {
         reader: usize,
-        place: usize,
+        place: Place,
         transaction: usize,
     },
     Contradiction,
 }
 
-/// How a transaction sees another by writes or by its session. A premise is the place of a claim.
+/// How a transaction sees another by writes or by its turns. A premise is the place of a claim.
 #[derive(Clone, Copy)]
 pub enum Link {
     /// Both write the key, and the premise says that the other is before.
@@ -48,8 +49,8 @@ pub enum Link {
         key: u64,
         before: usize,
     },
-    /// The other is before it in its session, and the premise says that it is before.
-    Session {
+    /// A turn of the other is before one of its own, and the premise says that it is before.
+    Turn {
         other: usize,
         before: usize,
     },
@@ -83,7 +84,7 @@ pub enum Step {
     /// The source of a read is among all writers.
     Start {
         reader: usize,
-        place: usize,
+        place: Place,
         taken: Option<usize>,
     },
     /// No writer below the number is a candidate.
@@ -93,6 +94,16 @@ pub enum Step {
     },
     /// The first that is left is not the source.
     Drop {
+        from: usize,
+        not: usize,
+    },
+    /// No writer from the number on is a candidate.
+    SkipBack {
+        from: usize,
+        number: usize,
+    },
+    /// The last that is left is not the source.
+    DropBack {
         from: usize,
         not: usize,
     },
@@ -108,8 +119,8 @@ pub enum Step {
     Read {
         source: usize,
     },
-    /// Where sessions bind, turns are kept.
-    Session {
+    /// Turns are kept.
+    Turn {
         first: usize,
         second: usize,
         first_taken: Option<usize>,
@@ -123,18 +134,18 @@ pub enum Step {
     /// A read sees the source of a read of its transaction.
     Own {
         source: usize,
-        place: usize,
+        place: Place,
     },
     /// A read sees who is before its transaction.
     Whole {
         before: usize,
-        place: usize,
+        place: Place,
         taken: Option<usize>,
     },
-    /// A read sees what its transaction does by writes or by its session.
+    /// A read sees what its transaction does by writes or by its turns.
     Linked {
         reader: usize,
-        place: usize,
+        place: Place,
         taken: Option<usize>,
         link: Link,
     },
@@ -148,7 +159,7 @@ pub enum Step {
         visible: usize,
         source: usize,
     },
-    /// What is seen shows what it sees by writes or by its session.
+    /// What is seen shows what it sees by writes or by its turns.
     ShowsLinked {
         visible: usize,
         link: Link,
@@ -160,7 +171,7 @@ pub enum Step {
     },
     /// Who is after the reader is not the source.
     NotLater {
-        place: usize,
+        place: Place,
         before: usize,
     },
     /// Who is before a writer of the key that is seen is not the source.
@@ -176,7 +187,7 @@ pub enum Step {
     /// One case of two: the reader takes place, and the writer is the source of its read.
     AssumeSource {
         reader: usize,
-        place: usize,
+        place: Place,
         writer: Writer,
     },
     /// A writer before itself, or before the opening.
@@ -200,7 +211,7 @@ pub struct Shown {
 /// What a step of a certificate is judged in: the rules, the log, and what is shown so far.
 #[derive(Clone, Copy)]
 pub(crate) struct Context<'a> {
-    pub rules: Rules,
+    pub asked: &'a Asked,
     pub log: &'a Log,
     pub shown: &'a [Shown],
 }

@@ -4,8 +4,10 @@ ghost use Rattle.hek_levels_refutation.specs.declared.claim.Context.{Context as 
 ghost use Rattle.hek_levels_refutation.specs.Claims.{FollowsFrom};
 
 use crate::claim::{Claim, Context};
-use crate::premises::{is_same, pair_at, source_at, takes_place, turn_at, visible_at};
-use hek_levels::{Writer, does_write, is_committed, is_earlier, is_possible, read_at};
+use crate::premises::{
+    is_same, is_same_place, pair_at, source_at, takes_place, turn_at, visible_at,
+};
+use hek_levels::{Place, Writer, does_write, is_committed, is_kept, is_possible, read_at};
 
 /// The opening is before each transaction.
 pub(crate) fn first(second: usize) -> Claim
@@ -56,8 +58,8 @@ pub(crate) fn read(context: &Context<'_>, source: usize) -> Option<Claim>
     })
 }
 
-/// Where sessions bind, turns are kept.
-pub(crate) fn session(
+/// Turns are kept.
+pub(crate) fn turn(
     context: &Context<'_>,
     x: usize,
     t: usize,
@@ -66,10 +68,7 @@ pub(crate) fn session(
 ) -> Option<Claim>
     ensures { IfSome result (λ claim. FollowsFrom context.now claim) }
 {
-    if !context.rules.sessions {
-        return None;
-    }
-    if !is_earlier(context.log, x, t) {
+    if !is_kept(context.log, x, t) {
         return None;
     }
     if !takes_place(context.log, context.shown, x, first_taken) {
@@ -116,7 +115,7 @@ pub(crate) fn newest(context: &Context<'_>, visible: usize, source: usize) -> Op
     if met.reader != found.reader {
         return None;
     }
-    if met.place != found.place {
+    if !is_same_place(met.place, found.place) {
         return None;
     }
     let Some(read) = read_at(context.log, met.reader, met.place) else {
@@ -135,7 +134,7 @@ pub(crate) fn newest(context: &Context<'_>, visible: usize, source: usize) -> Op
 }
 
 /// Who is after the reader is not the source.
-pub(crate) fn not_later(context: &Context<'_>, place: usize, before: usize) -> Option<Claim>
+pub(crate) fn not_later(context: &Context<'_>, place: Place, before: usize) -> Option<Claim>
     ensures { IfSome result (λ claim. FollowsFrom context.now claim) }
 {
     let Some(turn) = turn_at(context.shown, before) else {

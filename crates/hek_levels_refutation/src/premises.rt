@@ -1,7 +1,7 @@
 //! Claims that are premises.
 ghost use Rattle.std.specs.Prelude.{◌≡◌, ◌↔◌, ◌<◌, Option, Some, List, IsTrue, IfSome};
 ghost use Rattle.hek_levels.specs.declared.log.Log.{Log as TheLog};
-ghost use Rattle.hek_levels.specs.declared.rules.Rules.{Rules as TheRules};
+ghost use Rattle.hek_levels.specs.declared.rules.Asked.{Asked as TheAsked};
 ghost use Rattle.hek_levels_refutation.specs.declared.claim.Claim.TheVariants.{Before, From, Source, Not, Visible};
 ghost use Rattle.hek_levels.specs.Seen.{Explanation, TakesPlace, IsBefore, ReadsFrom, rank};
 ghost use Rattle.hek_levels.specs.declared.certificate.Writer.TheVariants.{Transaction as TransactionOf};
@@ -9,11 +9,11 @@ ghost use Rattle.hek_levels.specs.Explanations.{Explains};
 ghost use Rattle.hek_levels_refutation.specs.Claims.{AllHold, Holds};
 
 use crate::claim::{Claim, Shown};
-use hek_levels::{Log, Writer, is_committed, read_at};
+use hek_levels::{Log, Place, Writer, is_committed, read_at};
 
 /// The claim at a place.
 pub(crate) fn claim_at(shown: &[Shown], place: usize) -> Option<Claim>
-    ensures { IfSome result (λ claim. (rules : TheRules) (log : TheLog) (e : Explanation) → AllHold rules log e shown.now → Holds rules log e claim) }
+    ensures { IfSome result (λ claim. (asked : TheAsked) (log : TheLog) (e : Explanation) → AllHold asked log e shown.now → Holds asked log e claim) }
 {
     match shown.get(place) {
         Some(one) => Some(one.claim),
@@ -30,7 +30,7 @@ pub(crate) struct InTurn {
 
 /// The two writers, if the claim at a place is that one is before the other.
 pub(crate) fn turn_at(shown: &[Shown], place: usize) -> Option<InTurn>
-    ensures { IfSome result (λ turn. (rules : TheRules) (log : TheLog) (e : Explanation) → AllHold rules log e shown.now → Holds rules log e (Before turn.first turn.second)) }
+    ensures { IfSome result (λ turn. (asked : TheAsked) (log : TheLog) (e : Explanation) → AllHold asked log e shown.now → Holds asked log e (Before turn.first turn.second)) }
 {
     match claim_at(shown, place) {
         Some(Claim::Before { first, second }) => Some(InTurn { first, second }),
@@ -40,6 +40,13 @@ pub(crate) fn turn_at(shown: &[Shown], place: usize) -> Option<InTurn>
 
 /// Whether two writers are one.
 pub(crate) fn is_same(first: Writer, second: Writer) -> bool
+    ensures { IsTrue result ↔ first ≡ second }
+{
+    first == second
+}
+
+/// Whether two reads of a transaction are one.
+pub(crate) fn is_same_place(first: Place, second: Place) -> bool
     ensures { IsTrue result ↔ first ≡ second }
 {
     first == second
@@ -67,7 +74,7 @@ fn pair_of(first: Writer, second: Writer) -> Option<Pair>
 
 /// The two transactions, if the claim at a place is that one is before the other.
 pub(crate) fn pair_at(shown: &[Shown], place: usize) -> Option<Pair>
-    ensures { IfSome result (λ pair. (rules : TheRules) (log : TheLog) (e : Explanation) → AllHold rules log e shown.now → IsBefore e pair.first pair.second) }
+    ensures { IfSome result (λ pair. (asked : TheAsked) (log : TheLog) (e : Explanation) → AllHold asked log e shown.now → IsBefore e pair.first pair.second) }
 {
     let Some(turn) = turn_at(shown, place) else {
         return None;
@@ -77,7 +84,7 @@ pub(crate) fn pair_at(shown: &[Shown], place: usize) -> Option<Pair>
 
 /// Whether the claim at a place is that one writer is before another.
 pub(crate) fn is_before(shown: &[Shown], place: usize, first: Writer, second: Writer) -> bool
-    ensures { IsTrue result → (rules : TheRules) (log : TheLog) (e : Explanation) → AllHold rules log e shown.now → rank e.order first < rank e.order second }
+    ensures { IsTrue result → (asked : TheAsked) (log : TheLog) (e : Explanation) → AllHold asked log e shown.now → rank e.order first < rank e.order second }
 {
     let Some(turn) = turn_at(shown, place) else {
         return false;
@@ -90,7 +97,7 @@ pub(crate) fn is_before(shown: &[Shown], place: usize, first: Writer, second: Wr
 
 /// Whether a transaction takes place: it is known to have committed, or the claim at the place says so.
 pub(crate) fn takes_place(log: &Log, shown: &[Shown], t: usize, taken: Option<usize>) -> bool
-    ensures { IsTrue result → (rules : TheRules) (e : Explanation) → Explains rules log.now e → AllHold rules log.now e shown.now → TakesPlace e t }
+    ensures { IsTrue result → (asked : TheAsked) (e : Explanation) → Explains asked log.now e → AllHold asked log.now e shown.now → TakesPlace e t }
 {
     if is_committed(log, t) {
         return true;
@@ -108,13 +115,13 @@ pub(crate) fn takes_place(log: &Log, shown: &[Shown], t: usize, taken: Option<us
 #[derive(Clone, Copy)]
 pub(crate) struct Found {
     pub reader: usize,
-    pub place: usize,
+    pub place: Place,
     pub writer: Writer,
 }
 
 /// The source of a read, if the claim at a place names it.
 pub(crate) fn source_at(shown: &[Shown], place: usize) -> Option<Found>
-    ensures { IfSome result (λ found. (rules : TheRules) (log : TheLog) (e : Explanation) → AllHold rules log e shown.now → Holds rules log e (Source found.reader found.place found.writer)) }
+    ensures { IfSome result (λ found. (asked : TheAsked) (log : TheLog) (e : Explanation) → AllHold asked log e shown.now → Holds asked log e (Source found.reader found.place found.writer)) }
 {
     match claim_at(shown, place) {
         Some(
@@ -134,7 +141,7 @@ pub(crate) fn source_at(shown: &[Shown], place: usize) -> Option<Found>
 
 /// Who is not the source of a read, if the claim at a place says so.
 pub(crate) fn not_at(shown: &[Shown], place: usize) -> Option<Found>
-    ensures { IfSome result (λ found. (rules : TheRules) (log : TheLog) (e : Explanation) → AllHold rules log e shown.now → Holds rules log e (Not found.reader found.place found.writer)) }
+    ensures { IfSome result (λ found. (asked : TheAsked) (log : TheLog) (e : Explanation) → AllHold asked log e shown.now → Holds asked log e (Not found.reader found.place found.writer)) }
 {
     match claim_at(shown, place) {
         Some(
@@ -156,13 +163,14 @@ pub(crate) fn not_at(shown: &[Shown], place: usize) -> Option<Found>
 #[derive(Clone, Copy)]
 pub(crate) struct Left {
     pub reader: usize,
-    pub place: usize,
+    pub place: Place,
     pub number: usize,
+    pub end: usize,
 }
 
 /// The candidates that the claim at a place leaves.
 pub(crate) fn left_at(shown: &[Shown], place: usize) -> Option<Left>
-    ensures { IfSome result (λ left. (rules : TheRules) (log : TheLog) (e : Explanation) → AllHold rules log e shown.now → Holds rules log e (From left.reader left.place left.number)) }
+    ensures { IfSome result (λ left. (asked : TheAsked) (log : TheLog) (e : Explanation) → AllHold asked log e shown.now → Holds asked log e (From left.reader left.place left.number left.end)) }
 {
     match claim_at(shown, place) {
         Some(
@@ -170,11 +178,13 @@ pub(crate) fn left_at(shown: &[Shown], place: usize) -> Option<Left>
                 reader,
                 place: r,
                 number,
+                end,
             },
         ) => Some(Left {
             reader,
             place: r,
             number,
+            end,
         }),
         _ => None,
     }
@@ -184,13 +194,13 @@ pub(crate) fn left_at(shown: &[Shown], place: usize) -> Option<Left>
 #[derive(Clone, Copy)]
 pub(crate) struct Met {
     pub reader: usize,
-    pub place: usize,
+    pub place: Place,
     pub transaction: usize,
 }
 
 /// The transaction that a read sees, if the claim at a place says so.
 pub(crate) fn visible_at(shown: &[Shown], place: usize) -> Option<Met>
-    ensures { IfSome result (λ met. (rules : TheRules) (log : TheLog) (e : Explanation) → AllHold rules log e shown.now → Holds rules log e (Visible met.reader met.place met.transaction)) }
+    ensures { IfSome result (λ met. (asked : TheAsked) (log : TheLog) (e : Explanation) → AllHold asked log e shown.now → Holds asked log e (Visible met.reader met.place met.transaction)) }
 {
     match claim_at(shown, place) {
         Some(
@@ -210,7 +220,7 @@ pub(crate) fn visible_at(shown: &[Shown], place: usize) -> Option<Met>
 
 /// The reader, its read and the transaction that is its source, if the claim at a place names one.
 pub(crate) fn edge_at(log: &Log, shown: &[Shown], place: usize) -> Option<Met>
-    ensures { IfSome result (λ met. (rules : TheRules) (e : Explanation) → AllHold rules log.now e shown.now → TakesPlace e met.reader × ReadsFrom log.now e met.reader met.transaction) }
+    ensures { IfSome result (λ met. (asked : TheAsked) (e : Explanation) → AllHold asked log.now e shown.now → TakesPlace e met.reader × ReadsFrom log.now e met.reader met.transaction) }
 {
     let Some(found) = source_at(shown, place) else {
         return None;

@@ -5,15 +5,14 @@ ghost use Rattle.hek_levels_refutation.specs.declared.claim.Claim.TheVariants.{C
 ghost use Rattle.hek_levels.specs.Explanations.{HasNoExplanation};
 ghost use Rattle.hek_levels_refutation.specs.Claims.{FollowsFrom, IsContraryIn, NoneAssumed, IsLastAssumed, IsTurned, IsSound, IsOutcome};
 
-use crate::candidates::{drop_first, exhausted, only, skip, start};
+use crate::candidates::{drop_first, drop_last, exhausted, only, skip, skip_back, start};
 use crate::claim::{Claim, Context, Shown, Step};
 use crate::ordering::{
-    chain, committed, contra, first, impossible, inside, newest, not_later, not_older, read,
-    session,
+    chain, committed, contra, first, impossible, inside, newest, not_later, not_older, read, turn,
 };
 use crate::premises::is_same;
 use crate::seeing::{by_link, own, shows, shows_before, shows_linked, whole};
-use hek_levels::{Log, Rules, Writer};
+use hek_levels::{Asked, Log, Place, Writer};
 use hek_rules::NoMemory;
 use std::alloc::Global;
 
@@ -29,6 +28,8 @@ fn by_candidates(context: &Context<'_>, step: Step) -> Option<Claim>
         } => start(context, reader, place, taken),
         Step::Skip { from, number } => skip(context, from, number),
         Step::Drop { from, not } => drop_first(context, from, not),
+        Step::SkipBack { from, number } => skip_back(context, from, number),
+        Step::DropBack { from, not } => drop_last(context, from, not),
         Step::Only { from } => only(context, from),
         Step::Exhausted { from } => exhausted(context, from),
         _ => None,
@@ -44,12 +45,12 @@ fn by_order(context: &Context<'_>, step: Step) -> Option<Claim>
         Step::Committed { transaction } => committed(context, transaction),
         Step::In { premise, taken } => inside(context, premise, taken),
         Step::Read { source } => read(context, source),
-        Step::Session {
+        Step::Turn {
             first: x,
             second: t,
             first_taken,
             second_taken,
-        } => session(context, x, t, first_taken, second_taken),
+        } => turn(context, x, t, first_taken, second_taken),
         Step::Chain {
             first: p,
             second: q,
@@ -141,7 +142,7 @@ fn before_case(context: &Context<'_>, first: Writer, second: Writer) -> Option<C
 }
 
 /// The writer is the source, or is not.
-fn source_case(context: &Context<'_>, reader: usize, place: usize, writer: Writer) -> Option<Case>
+fn source_case(context: &Context<'_>, reader: usize, place: Place, writer: Writer) -> Option<Case>
     ensures { IfSome result (λ case. IsContraryIn context.now case.claim case.contrary) }
 {
     // The proof counts the claims, and a length that was asked for is in range.
@@ -222,7 +223,7 @@ fn last_assumed(shown: &[Shown]) -> Option<Assumed>
 }
 
 /// The n-th goes, with all after it, and its contrary comes.
-fn turn(shown: &mut Vec<Shown>, n: usize, contrary: Claim) -> Result<(), NoMemory>
+fn turn_over(shown: &mut Vec<Shown>, n: usize, contrary: Claim) -> Result<(), NoMemory>
     requires { n < length shown.old.items }
     ensures { OnOk result (IsTurned shown.old.items n contrary shown.new.items) }
 {
@@ -263,12 +264,17 @@ enum Outcome {
 }
 
 /// One step.
-fn advance(rules: Rules, log: &Log, shown: &mut Vec<Shown>, step: Step) -> Result<Outcome, NoMemory>
-    requires { IsSound rules log.now shown.old.items }
-    ensures { IfOk result (λ outcome. IsOutcome rules log.now shown.new.items outcome) }
+fn advance(
+    asked: &Asked,
+    log: &Log,
+    shown: &mut Vec<Shown>,
+    step: Step,
+) -> Result<Outcome, NoMemory>
+    requires { IsSound asked.now log.now shown.old.items }
+    ensures { IfOk result (λ outcome. IsOutcome asked.now log.now shown.new.items outcome) }
 {
     let context = Context {
-        rules,
+        asked,
         log,
         shown: shown.as_slice(),
     };
@@ -282,19 +288,19 @@ fn advance(rules: Rules, log: &Log, shown: &mut Vec<Shown>, step: Step) -> Resul
     let Some(last) = last_assumed(shown.as_slice()) else {
         return Ok(Outcome::Refuted);
     };
-    turn(shown, last.place, last.contrary)?;
+    turn_over(shown, last.place, last.contrary)?;
     Ok(Outcome::Accepted)
 }
 
 /// Whether these steps show that the log has no explanation by these rules. Each step has to follow. A step that is
 /// assumed opens a case, and a contradiction ends the innermost that is open: the contrary takes its place. Where
 /// none is open, the log has no explanation.
-pub fn refutes(alloc: Global, rules: Rules, log: &Log, steps: &[Step]) -> Result<bool, NoMemory>
-    ensures { IfOk result (λ yes. IsTrue yes → HasNoExplanation rules log.now) }
+pub fn refutes(alloc: Global, asked: &Asked, log: &Log, steps: &[Step]) -> Result<bool, NoMemory>
+    ensures { IfOk result (λ yes. IsTrue yes → HasNoExplanation asked.now log.now) }
 {
     let mut shown = Vec::new(alloc);
     for n in 0..steps.len() {
-        match advance(rules, log, &mut shown, steps[n])? {
+        match advance(asked, log, &mut shown, steps[n])? {
             Outcome::Refused => return Ok(false),
             Outcome::Refuted => return Ok(true),
             Outcome::Accepted => {}

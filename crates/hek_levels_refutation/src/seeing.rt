@@ -4,12 +4,13 @@ ghost use Rattle.hek_levels.specs.declared.log.Read.{Read as TheRead};
 ghost use Rattle.hek_levels.specs.declared.certificate.Writer.TheVariants.{Transaction as TransactionOf};
 ghost use Rattle.hek_levels.specs.Logs.{read_at as read_there};
 ghost use Rattle.hek_levels.specs.Seen.{Explanation, IsLinked, Precedes, SeesByOwn};
+ghost use Rattle.hek_levels.specs.Levels.{asked_of};
 ghost use Rattle.hek_levels.specs.Explanations.{Explains};
 ghost use Rattle.hek_levels_refutation.specs.Claims.{AllHold, FollowsFrom};
 
 use crate::claim::{Claim, Context, Link};
 use crate::premises::{edge_at, is_before, pair_at, source_at, takes_place, visible_at};
-use hek_levels::{Links, Own, Writer, does_write, is_earlier, read_at};
+use hek_levels::{Links, Own, Place, Writer, does_write, is_earlier, read_at};
 
 /// Both write the key, the other before y.
 fn by_writers(
@@ -20,7 +21,7 @@ fn by_writers(
     key: u64,
     before: usize,
 ) -> Option<usize>
-    ensures { IfSome result (λ x. (e : Explanation) → Explains context.now.rules context.now.log.now e → AllHold context.now.rules context.now.log.now e context.now.shown.now → IsLinked links context.now.log.now e y x) }
+    ensures { IfSome result (λ x. (e : Explanation) → Explains context.now.asked.now context.now.log.now e → AllHold context.now.asked.now context.now.log.now e context.now.shown.now → IsLinked links context.now.log.now e y x) }
 {
     if !links.writers {
         return None;
@@ -42,9 +43,9 @@ fn by_writers(
     Some(other)
 }
 
-/// The other is before y, and earlier in its session.
+/// The other is before y, by turns too.
 fn precedes(context: &Context<'_>, y: usize, other: usize, before: usize) -> bool
-    ensures { IsTrue result → (e : Explanation) → AllHold context.now.rules context.now.log.now e context.now.shown.now → Precedes context.now.log.now e other y }
+    ensures { IsTrue result → (e : Explanation) → AllHold context.now.asked.now context.now.log.now e context.now.shown.now → Precedes context.now.log.now e other y }
 {
     if !is_earlier(context.log, other, y) {
         return false;
@@ -57,17 +58,17 @@ fn precedes(context: &Context<'_>, y: usize, other: usize, before: usize) -> boo
     )
 }
 
-/// The other is before y in its session.
-fn by_session(
+/// A turn of the other is before one of y.
+fn by_turn(
     context: &Context<'_>,
     links: Links,
     y: usize,
     other: usize,
     before: usize,
 ) -> Option<usize>
-    ensures { IfSome result (λ x. (e : Explanation) → Explains context.now.rules context.now.log.now e → AllHold context.now.rules context.now.log.now e context.now.shown.now → IsLinked links context.now.log.now e y x) }
+    ensures { IfSome result (λ x. (e : Explanation) → Explains context.now.asked.now context.now.log.now e → AllHold context.now.asked.now context.now.log.now e context.now.shown.now → IsLinked links context.now.log.now e y x) }
 {
-    if !links.session {
+    if !links.turns {
         return None;
     }
     if !precedes(context, y, other, before) {
@@ -76,7 +77,7 @@ fn by_session(
     Some(other)
 }
 
-/// One before y in its session reads from the other.
+/// One whose turn is before one of y reads from the other.
 fn by_reads(
     context: &Context<'_>,
     links: Links,
@@ -85,9 +86,9 @@ fn by_reads(
     before: usize,
     source: usize,
 ) -> Option<usize>
-    ensures { IfSome result (λ x. (e : Explanation) → Explains context.now.rules context.now.log.now e → AllHold context.now.rules context.now.log.now e context.now.shown.now → IsLinked links context.now.log.now e y x) }
+    ensures { IfSome result (λ x. (e : Explanation) → Explains context.now.asked.now context.now.log.now e → AllHold context.now.asked.now context.now.log.now e context.now.shown.now → IsLinked links context.now.log.now e y x) }
 {
-    if !links.session_reads {
+    if !links.turn_reads {
         return None;
     }
     if !precedes(context, y, through, before) {
@@ -104,11 +105,11 @@ fn by_reads(
 
 /// Whom y sees by a link.
 fn linked(context: &Context<'_>, links: Links, y: usize, link: Link) -> Option<usize>
-    ensures { IfSome result (λ x. (e : Explanation) → Explains context.now.rules context.now.log.now e → AllHold context.now.rules context.now.log.now e context.now.shown.now → IsLinked links context.now.log.now e y x) }
+    ensures { IfSome result (λ x. (e : Explanation) → Explains context.now.asked.now context.now.log.now e → AllHold context.now.asked.now context.now.log.now e context.now.shown.now → IsLinked links context.now.log.now e y x) }
 {
     match link {
         Link::Writers { other, key, before } => by_writers(context, links, y, other, key, before),
-        Link::Session { other, before } => by_session(context, links, y, other, before),
+        Link::Turn { other, before } => by_turn(context, links, y, other, before),
         Link::Reads {
             through,
             before,
@@ -118,8 +119,8 @@ fn linked(context: &Context<'_>, links: Links, y: usize, link: Link) -> Option<u
 }
 
 /// Whether the q-th read of t shows the r-th its source.
-fn shows_own(context: &Context<'_>, t: usize, q: usize, r: usize) -> bool
-    ensures { IsTrue result → (e : Explanation) (x : ℕ) → e.source t q ≡ TransactionOf x → (read : TheRead) → read_there context.now.log.now t r ≡ Some read → SeesByOwn context.now.rules.own context.now.log.now e t r read.operation x }
+fn shows_own(context: &Context<'_>, t: usize, q: Place, r: Place) -> bool
+    ensures { IsTrue result → (e : Explanation) (x : ℕ) → e.source t q ≡ TransactionOf x → (read : TheRead) → read_there context.now.log.now t r ≡ Some read → SeesByOwn (asked_of context.now.asked.now t).own context.now.log.now e t read.operation x }
 {
     let Some(shown) = read_at(context.log, t, q) else {
         return false;
@@ -127,15 +128,16 @@ fn shows_own(context: &Context<'_>, t: usize, q: usize, r: usize) -> bool
     let Some(reading) = read_at(context.log, t, r) else {
         return false;
     };
-    match context.rules.own {
+    let rules = context.asked.of(t);
+    match rules.own {
         Own::Nothing => false,
-        Own::Earlier => q == r || shown.operation <= reading.operation,
+        Own::Earlier => shown.operation <= reading.operation,
         Own::All => true,
     }
 }
 
 /// A read sees the source of a read of its transaction.
-pub(crate) fn own(context: &Context<'_>, source: usize, r: usize) -> Option<Claim>
+pub(crate) fn own(context: &Context<'_>, source: usize, r: Place) -> Option<Claim>
     ensures { IfSome result (λ claim. FollowsFrom context.now claim) }
 {
     let Some(found) = source_at(context.shown, source) else {
@@ -158,17 +160,18 @@ pub(crate) fn own(context: &Context<'_>, source: usize, r: usize) -> Option<Clai
 pub(crate) fn whole(
     context: &Context<'_>,
     before: usize,
-    r: usize,
+    r: Place,
     taken: Option<usize>,
 ) -> Option<Claim>
     ensures { IfSome result (λ claim. FollowsFrom context.now claim) }
 {
-    if !context.rules.whole {
-        return None;
-    }
     let Some(pair) = pair_at(context.shown, before) else {
         return None;
     };
+    let rules = context.asked.of(pair.second);
+    if !rules.whole {
+        return None;
+    }
     if !takes_place(context.log, context.shown, pair.second, taken) {
         return None;
     }
@@ -183,7 +186,7 @@ pub(crate) fn whole(
 pub(crate) fn by_link(
     context: &Context<'_>,
     t: usize,
-    r: usize,
+    r: Place,
     taken: Option<usize>,
     link: Link,
 ) -> Option<Claim>
@@ -192,7 +195,8 @@ pub(crate) fn by_link(
     if !takes_place(context.log, context.shown, t, taken) {
         return None;
     }
-    let Some(x) = linked(context, context.rules.first, t, link) else {
+    let rules = context.asked.of(t);
+    let Some(x) = linked(context, rules.first, t, link) else {
         return None;
     };
     Some(Claim::Visible {
@@ -206,12 +210,13 @@ pub(crate) fn by_link(
 pub(crate) fn shows_before(context: &Context<'_>, visible: usize, before: usize) -> Option<Claim>
     ensures { IfSome result (λ claim. FollowsFrom context.now claim) }
 {
-    if !context.rules.prefix {
-        return None;
-    }
     let Some(met) = visible_at(context.shown, visible) else {
         return None;
     };
+    let rules = context.asked.of(met.reader);
+    if !rules.prefix {
+        return None;
+    }
     let Some(pair) = pair_at(context.shown, before) else {
         return None;
     };
@@ -229,12 +234,13 @@ pub(crate) fn shows_before(context: &Context<'_>, visible: usize, before: usize)
 pub(crate) fn shows(context: &Context<'_>, visible: usize, source: usize) -> Option<Claim>
     ensures { IfSome result (λ claim. FollowsFrom context.now claim) }
 {
-    if !context.rules.causes {
-        return None;
-    }
     let Some(met) = visible_at(context.shown, visible) else {
         return None;
     };
+    let rules = context.asked.of(met.reader);
+    if !rules.causes {
+        return None;
+    }
     let Some(edge) = edge_at(context.log, context.shown, source) else {
         return None;
     };
@@ -255,7 +261,8 @@ pub(crate) fn shows_linked(context: &Context<'_>, visible: usize, link: Link) ->
     let Some(met) = visible_at(context.shown, visible) else {
         return None;
     };
-    let Some(x) = linked(context, context.rules.next, met.transaction, link) else {
+    let rules = context.asked.of(met.reader);
+    let Some(x) = linked(context, rules.next, met.transaction, link) else {
         return None;
     };
     Some(Claim::Visible {

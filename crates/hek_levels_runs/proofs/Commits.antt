@@ -9,11 +9,12 @@ use Rattle.hek_history.specs.declared.history.Point.TheVariants.{Begin, Commit}
 use Rattle.hek_history.specs.Explanation.{At, IsExplanation}
 use Rattle.hek_history.proofs.Places.{same_place}
 use Rattle.hek_history.proofs.Transcripts.{kinds_apart, commits_apart, no_point}
+use Rattle.hek_levels.specs.declared.log.Place.{Place}
 use Rattle.hek_levels.specs.declared.certificate.Writer.{Writer}
 use Rattle.hek_levels.specs.declared.certificate.Writer.TheVariants as writer
 use Rattle.hek_levels.specs.Seen.{Explanation, TakesPlace, place, rank, IsBefore}
 use Rattle.hek_levels.proofs.Orders.{takes, placed}
-use Rattle.hek_levels_runs.specs.Laws.{commits_of}
+use Rattle.hek_levels.specs.Points.{commits_of}
 
 -- how many commit before a place
 abbrev pub spot : List Point → ℕ → ℕ
@@ -92,7 +93,7 @@ module _ (h : History) (points : List Point) (x : IsExplanation h points) where
       omega (arith, first, second, less)
 
   -- who is before a transaction in the order commits before it
-  pub before_commits : (source : ℕ → ℕ → Writer) (k w t : ℕ) → At points k (Commit t) → IsBefore (record { order = commits_of points; source = source }) w t → (j : ℕ) × (j < k) × At points j (Commit w)
+  pub before_commits : (source : ℕ → Place → Writer) (k w t : ℕ) → At points k (Commit t) → IsBefore (record { order = commits_of points; source = source }) w t → (j : ℕ) × (j < k) × At points j (Commit w)
   before_commits source k w t a b =
       let e : Explanation = record { order = commits_of points; source = source } in
       let stands : TakesPlace e w = takes e w t b (spot points k, at_spot points k t a) in

@@ -1,5 +1,5 @@
 -- Answers that are right over some rows agree with one another.
-use Rattle.std.proofs.Common.{◌≡◌, ◌==◌, ℕ, zero, suc, true, false, Vec, Global, List, [], ◌∷◌, Option, Some, None, refl, ap, ◌∙◌, subst, inl, inr, take}
+use Rattle.std.proofs.Common.{◌≡◌, ◌==◌, ℕ, zero, suc, true, false, Vec, Global, List, [], ◌∷◌, Option, Some, refl, ap, ◌∙◌, subst, inl, inr, take}
 use Rattle.std.proofs.lemmas.Bool.{cases_Bool, eq-eqb, both_ways, not-true}
 use Rattle.std.proofs.lemmas.Option.{same_Some}
 use Rattle.std.specs.Prelude.{not, is_some, slice_get}
@@ -7,10 +7,11 @@ use Rattle.hek_rules.specs.Listing.{value_of}
 use Rattle.hek_history.specs.declared.history.Operation.{Operation}
 use Rattle.hek_history.specs.declared.history.Operation.TheVariants.{Read, Put, Insert, Update, Delete, Scan}
 use Rattle.hek_history.specs.declared.history.Scope.{Scope}
-use Rattle.hek_history.specs.Answers.{covers, after, last_change, lay_all, tells, AreRight}
-use Rattle.hek_history.proofs.Rows.{value_of-lay_all, after-change}
-use Rattle.hek_history_levels.specs.Reads.{changes}
-use Rattle.hek_history_levels.specs.Fits.{AreCovered, IsOfScope, AgreesWith, AreFitting}
+use Rattle.hek_history.specs.Answers.{covers, last_change, lay_all, tells, AreRight}
+use Rattle.hek_history.proofs.Rows.{value_of-lay_all}
+use Rattle.hek_history_levels.specs.Changes.{left_by}
+use Rattle.hek_history_levels.specs.Fits.{AreCovered, IsOfScope, AreFitting}
+use Rattle.hek_levels_runs.proofs.Left.{after-left}
 
 -- the key of a pair has a value
 has_value : (pairs : List (ℕ × ℕ)) (i : ℕ) (p : ℕ × ℕ) → slice_get pairs i ≡ Some p → is_some (value_of pairs p.0) ≡ true
@@ -43,20 +44,16 @@ of_scope (Update key value done) found told = tt
 of_scope (Delete key done) found told = tt
 of_scope (Scan scope pairs) found told = covered scope pairs found told
 
--- the value of a key that operations change does not depend on the rows
-changed_value : (before : List Operation) (rows : List (ℕ × ℕ)) (key : ℕ) → changes before key ≡ true → value_of (lay_all before rows) key ≡ after (last_change key before) None
-changed_value before rows key e = value_of-lay_all before rows key ∙ after-change (last_change key before) (value_of rows key) e
-
--- so the answer on such a key is that of its last change
-agrees : (before : List Operation) (op : Operation) (rows : List (ℕ × ℕ)) → ((key : ℕ) → tells key op (value_of (lay_all before rows) key) ≡ true) → AgreesWith before op
-agrees before op rows told key on = subst (λ (v : Option ℕ). tells key op v ≡ true) (changed_value before rows key on) (told key)
+-- the value of a key at which operations leave something is that
+left_value : (before : List Operation) (rows : List (ℕ × ℕ)) (key : ℕ) (v : Option ℕ) → left_by before key ≡ Some v → value_of (lay_all before rows) key ≡ v
+left_value before rows key v e = value_of-lay_all before rows key ∙ after-left (last_change key before) (value_of rows key) v e
 
 -- answers that are right over some rows fit
-pub are_fitting : (ops : List Operation) (rows : List (ℕ × ℕ)) → AreRight false ops rows → AreFitting ops
+pub are_fitting : (ops : List Operation) (rows : List (ℕ × ℕ)) → AreRight false ops rows → AreFitting false ops
 are_fitting ops rows right n op there =
     let here = right n op there in
     record {
       by_key = here.by_key;
       of_scope = of_scope op (value_of (lay_all (take n ops) rows)) (λ key. here.allowed key);
-      agrees = agrees (take n ops) op rows (λ key. here.allowed key);
+      agrees = (λ key v left. subst (λ (x : Option ℕ). tells key op x ≡ true) (left_value (take n ops) rows key v left) (here.allowed key));
     }

@@ -1,40 +1,20 @@
 -- What answers that are right need of keys that their transaction had not changed is met by the rows.
-use Rattle.std.proofs.Common.{◌≡◌, ◌==◌, ℕ, zero, suc, Bool, true, false, cond, Vec, Global, List, [], ◌∷◌, ◌++◌, Option, Some, None, refl, sym, ◌∙◌, subst, take, length}
-use Rattle.std.proofs.lemmas.Bool.{eqb-true, eq-eqb, not-true, and_parts}
+use Rattle.std.proofs.Common.{◌≡◌, ◌==◌, ◌<◌, ℕ, zero, suc, Bool, true, false, cond, List, [], ◌∷◌, Option, Some, None, refl, sym, ap, ◌∙◌, subst, inl, inr, take, arith}
+use Rattle.std.proofs.lemmas.Bool.{cases_Bool, eqb-true, eq-eqb}
 use Rattle.std.proofs.lemmas.Option.{same_Some}
-use Rattle.std.specs.Prelude.{◌&&◌, not, is_some, slice_get}
+use Rattle.std.specs.Prelude.{not, is_some, slice_get}
 use Rattle.hek_rules.specs.Listing.{value_of}
 use Rattle.hek_history.specs.declared.history.Operation.{Operation}
 use Rattle.hek_history.specs.declared.history.Operation.TheVariants.{Read, Put, Insert, Update, Delete, Scan}
 use Rattle.hek_history.specs.declared.history.Scope.{Scope}
-use Rattle.hek_history.specs.Answers.{covers, same_found, last_change, lay_all, tells, AreRight}
-use Rattle.hek_history.proofs.Rows.{value_of-lay_all, after-kept}
+use Rattle.hek_history.specs.Answers.{covers, same_found, last_change, lay_all, tells, IsByKey, AreRight}
+use Rattle.hek_history.proofs.Rows.{value_of-lay_all}
 use Rattle.hek_levels.specs.declared.log.Need.{Need}
-use Rattle.hek_levels.specs.declared.log.Need.TheVariants.{Absent, Present}
-use Rattle.hek_levels.specs.declared.log.Read.{Read as TheRead}
+use Rattle.hek_levels.specs.declared.log.Need.TheVariants.{Absent, Present, Value}
 use Rattle.hek_levels.specs.Logs.{meets}
-use Rattle.hek_history_levels.specs.Reads.{changes, need_of, read_of, own_read, scan_reads, reads_in, reads_if, reads_to, reads_of}
-
--- ---- each read of a list is met by the rows
-
-abbrev AreMet : List (ℕ × ℕ) → List TheRead → Type 0
-AreMet rows reads = (r : ℕ) (read : TheRead) → slice_get reads r ≡ Some read → meets read.need (value_of rows read.key) ≡ true
-
--- no read, one more read, and the reads of two lists or of one of them
-none_met : (rows : List (ℕ × ℕ)) → AreMet rows []
-none_met rows r read there = cc
-
-more_met : (rows : List (ℕ × ℕ)) (x : TheRead) (reads : List TheRead) → meets x.need (value_of rows x.key) ≡ true → AreMet rows reads → AreMet rows (x ∷ reads)
-more_met rows x reads here rest zero read there = subst (λ (y : TheRead). meets y.need (value_of rows y.key) ≡ true) (same_Some x read there) here
-more_met rows x reads here rest (suc r) read there = rest r read there
-
-both_met : (rows : List (ℕ × ℕ)) (first more : List TheRead) → AreMet rows first → AreMet rows more → AreMet rows (first ++ more)
-both_met rows [] more a b = b
-both_met rows (x ∷ first) more a b = more_met rows x (first ++ more) (a zero x refl) (both_met rows first more (λ r read there. a (suc r) read there) b)
-
-met_by : (rows : List (ℕ × ℕ)) (b : Bool) (xs ys : List TheRead) → (b ≡ true → AreMet rows xs) → (b ≡ false → AreMet rows ys) → AreMet rows (cond b xs ys)
-met_by rows true xs ys f g = f refl
-met_by rows false xs ys f g = g refl
+use Rattle.hek_history_levels.specs.Changes.{left_by}
+use Rattle.hek_history_levels.specs.Reads.{need_of, Says, IsRead}
+use Rattle.hek_levels_runs.proofs.Left.{after-none}
 
 -- ---- needs that answers tell
 
@@ -64,69 +44,92 @@ done_present true value e = present_need value e
 done_present false value e = absent_need value e
 
 -- what is told of the operation's own key
-of_own : (key : ℕ) (b : Bool) → cond (key == key) b true ≡ true → b ≡ true
-of_own key b e = rw (eq-eqb key key refl) at e
+of_own : (own key : ℕ) (b : Bool) → own ≡ key → cond (own == key) b true ≡ true → b ≡ true
+of_own own key b same e = rw (eq-eqb own key same) at e
 
--- ---- the reads of an operation
+one_need : (a b : Need) → ◌≡◌ {A = Option Need} (Some a) (Some b) → a ≡ b
+one_need a b e = cc
 
--- operations that do not change a key leave its value
-kept_value : (before : List Operation) (rows : List (ℕ × ℕ)) (key : ℕ) → changes before key ≡ false → value_of (lay_all before rows) key ≡ value_of rows key
-kept_value before rows key e = value_of-lay_all before rows key ∙ after-kept (last_change key before) (value_of rows key) e
+needed : (a b : Need) (value : Option ℕ) → ◌≡◌ {A = Option Need} (Some a) (Some b) → meets a value ≡ true → meets b value ≡ true
+needed a b value same met = subst (λ (n : Need). meets n value ≡ true) (one_need a b same) met
 
--- the read of an operation of one key
-own_met : (rows : List (ℕ × ℕ)) (n : ℕ) (before : List Operation) (key : ℕ) (need : Need) → meets need (value_of (lay_all before rows) key) ≡ true → AreMet rows (own_read n before key (Some need))
-own_met rows n before key need met =
-    met_by rows (changes before key) [] (read_of n key need ∷ []) (λ on. none_met rows)
-    (λ off. more_met rows (read_of n key need) [] (subst (λ (v : Option ℕ). meets need v ≡ true) (kept_value before rows key off) met) (none_met rows))
+-- ---- pairs by key
 
--- the reads of a scan
-scan_met : (rows : List (ℕ × ℕ)) (n : ℕ) (before : List Operation) (scope : Scope) (pairs : List (ℕ × ℕ)) →
-    ((key : ℕ) → covers scope key ≡ true → same_found (value_of pairs key) (value_of (lay_all before rows) key) ≡ true) →
-    (keys : List ℕ) → AreMet rows (scan_reads n before scope pairs keys)
-scan_met rows n before scope pairs told [] = none_met rows
-scan_met rows n before scope pairs told (key ∷ keys) =
-    let rest : AreMet rows (scan_reads n before scope pairs keys) = scan_met rows n before scope pairs told keys in
-    met_by rows (covers scope key && not (changes before key)) (read_of n key (need_of (value_of pairs key)) ∷ scan_reads n before scope pairs keys) (scan_reads n before scope pairs keys)
-    (λ on.
-    let p = and_parts (covers scope key) (not (changes before key)) on in
-    let met : meets (need_of (value_of pairs key)) (value_of (lay_all before rows) key) ≡ true = found_need (value_of pairs key) (value_of (lay_all before rows) key) (told key p.0) in
-    more_met rows (read_of n key (need_of (value_of pairs key))) (scan_reads n before scope pairs keys)
-    (subst (λ (v : Option ℕ). meets (need_of (value_of pairs key)) v ≡ true) (kept_value before rows key (not-true (changes before key) p.1)) met) rest)
-    (λ off. rest)
+-- the pairs rise
+abbrev AreRising : List (ℕ × ℕ) → Type 0
+AreRising pairs = (n : ℕ) (p q : ℕ × ℕ) → slice_get pairs n ≡ Some p → slice_get pairs (suc n) ≡ Some q → p.0 < q.0
 
--- what a scan tells of a key that it is of
-told_by_scan : (scope : Scope) (pairs : Vec (ℕ × ℕ) Global) (key : ℕ) (value : Option ℕ) → tells key (Scan scope pairs) value ≡ true → covers scope key ≡ true → same_found (value_of pairs.items key) value ≡ true
-told_by_scan scope pairs key value t e = rw e at t
+rising_rest : (p : ℕ × ℕ) (pairs : List (ℕ × ℕ)) → AreRising (p ∷ pairs) → AreRising pairs
+rising_rest p pairs rising n a b there next = rising (suc n) a b there next
 
--- the reads of any operation, and of the one at a place
-operation_met : (rows : List (ℕ × ℕ)) (keys : List ℕ) (n : ℕ) (before : List Operation) (op : Operation) → ((key : ℕ) → tells key op (value_of (lay_all before rows) key) ≡ true) → AreMet rows (reads_in keys n before op)
-operation_met rows keys n before (Read key found) told = own_met rows n before key (need_of found) (found_need found (value_of (lay_all before rows) key) (of_own key (same_found found (value_of (lay_all before rows) key)) (told key)))
-operation_met rows keys n before (Put key value) told = none_met rows
-operation_met rows keys n before (Insert key value done) told =
-    let v : Option ℕ = value_of (lay_all before rows) key in
-    own_met rows n before key (cond done Absent Present) (done_absent done v (of_own key (cond done (not (is_some v)) (is_some v)) (told key)))
-operation_met rows keys n before (Update key value done) told =
-    let v : Option ℕ = value_of (lay_all before rows) key in
-    own_met rows n before key (cond done Present Absent) (done_present done v (of_own key (cond done (is_some v) (not (is_some v))) (told key)))
-operation_met rows keys n before (Delete key done) told =
-    let v : Option ℕ = value_of (lay_all before rows) key in
-    own_met rows n before key (cond done Present Absent) (done_present done v (of_own key (cond done (is_some v) (not (is_some v))) (told key)))
-operation_met rows keys n before (Scan scope pairs) told =
-    scan_met rows n before scope pairs.items (λ key e. told_by_scan scope pairs key (value_of (lay_all before rows) key) (told key) e) keys
+-- the first has the least key
+least : (p : ℕ × ℕ) (pairs : List (ℕ × ℕ)) → AreRising (p ∷ pairs) → (i : ℕ) (q : ℕ × ℕ) → slice_get pairs i ≡ Some q → p.0 < q.0
+least p [] rising i q there = cc
+least p (a ∷ pairs) rising zero q there = rising zero p q refl there
+least p (a ∷ pairs) rising (suc i) q there =
+    let first = rising zero p a refl refl in
+    let later = least a pairs (rising_rest p (a ∷ pairs) rising) i q there in
+    omega (arith, first, later)
 
-operation_met_if : (rows : List (ℕ × ℕ)) (keys : List ℕ) (ops : List Operation) (n : ℕ) (o : Option Operation) → slice_get ops n ≡ o → AreRight false ops rows → AreMet rows (reads_if keys n (take n ops) o)
-operation_met_if rows keys ops n None is right = none_met rows
-operation_met_if rows keys ops n (Some op) is right = operation_met rows keys n (take n ops) op (λ key. (right n op is).allowed key)
+apart : (a b : ℕ) → a < b → (a == b) ≡ true → ⊥
+apart a b less same = let e = eqb-true a b same in omega (arith, less, e)
 
--- ---- the reads of operations
+-- so a pair has the value of its key
+pair_value : (pairs : List (ℕ × ℕ)) → AreRising pairs → (i key v : ℕ) → slice_get pairs i ≡ Some (key, v) → value_of pairs key ≡ Some v
+pair_value [] rising i key v there = cc
+pair_value (p ∷ pairs) rising zero key v there =
+    let same : p ≡ (key, v) = same_Some p (key, v) there in
+    rw (eq-eqb p.0 key (ap (λ (q : ℕ × ℕ). q.0) same)) (ap (λ (q : ℕ × ℕ). Some q.1) same)
+pair_value (p ∷ pairs) rising (suc i) key v there =
+    elim (cases_Bool (p.0 == key)) [
+      | inl same ↦ absurd (apart p.0 key (least p pairs rising i (key, v) there) same)
+      | inr other ↦ rw other (pair_value pairs (rising_rest p pairs rising) i key v there)
+    ]
 
--- the reads of the first n operations
-first_met : (rows : List (ℕ × ℕ)) (keys : List ℕ) (ops : List Operation) → AreRight false ops rows → (n : ℕ) → AreMet rows (reads_to keys ops n)
-first_met rows keys ops right zero = none_met rows
-first_met rows keys ops right (suc n) =
-    both_met rows (reads_to keys ops n) (reads_if keys n (take n ops) (slice_get ops n)) (first_met rows keys ops right n) (operation_met_if rows keys ops n (slice_get ops n) refl right)
+-- ---- a scan
+
+-- what is told of a key that has a pair, and of one of its scope that has none
+paired_met : (scope : Scope) (pairs : List (ℕ × ℕ)) (key v : ℕ) (value : Option ℕ) → value_of pairs key ≡ Some v →
+    cond (covers scope key) (same_found (value_of pairs key) value) (not (is_some (value_of pairs key))) ≡ true → meets (Value v) value ≡ true
+paired_met scope pairs key v value is told =
+    let at : cond (covers scope key) (same_found (Some v) value) false ≡ true = rw is at told in
+    found_need (Some v) value (chosen (covers scope key) (same_found (Some v) value) at)
+  where
+    chosen : (b c : Bool) → cond b c false ≡ true → c ≡ true
+    chosen true c e = e
+    chosen false c e = cc
+
+unpaired_met : (scope : Scope) (pairs : List (ℕ × ℕ)) (key : ℕ) (value : Option ℕ) → covers scope key ≡ true → value_of pairs key ≡ None →
+    cond (covers scope key) (same_found (value_of pairs key) value) (not (is_some (value_of pairs key))) ≡ true → meets Absent value ≡ true
+unpaired_met scope pairs key value covered none told = found_need None value (rw (covered, none) at told)
+
+-- ---- an answer
+
+-- an answer that is right meets what it says
+said_met : (op : Operation) (key : ℕ) (need : Need) (value : Option ℕ) → IsByKey op → tells key op value ≡ true → Says op key need → meets need value ≡ true
+said_met (Read k found) key need value by_key told says = needed (need_of found) need value says.1 (found_need found value (of_own k key (same_found found value) says.0 told))
+said_met (Put k x) key need value by_key told says = absurd (let e : ◌≡◌ {A = Option Need} None (Some need) = says.1 in cc)
+said_met (Insert k x done) key need value by_key told says =
+    needed (cond done Absent Present) need value says.1 (done_absent done value (of_own k key (cond done (not (is_some value)) (is_some value)) says.0 told))
+said_met (Update k x done) key need value by_key told says =
+    needed (cond done Present Absent) need value says.1 (done_present done value (of_own k key (cond done (is_some value) (not (is_some value))) says.0 told))
+said_met (Delete k done) key need value by_key told says =
+    needed (cond done Present Absent) need value says.1 (done_present done value (of_own k key (cond done (is_some value) (not (is_some value))) says.0 told))
+said_met (Scan scope pairs) key need value by_key told says =
+    elim says [
+      | inl paired ↦
+          let there : value_of pairs.items key ≡ Some paired.1 = pair_value pairs.items by_key paired.0 key paired.1 paired.2 in
+          subst (λ (n : Need). meets n value ≡ true) (sym paired.3) (paired_met scope pairs.items key paired.1 value there told)
+      | inr missing ↦ subst (λ (n : Need). meets n value ≡ true) (sym missing.2) (unpaired_met scope pairs.items key value missing.0 missing.1 told)
+    ]
+
+-- operations that leave nothing at a key leave its value
+kept_value : (before : List Operation) (rows : List (ℕ × ℕ)) (key : ℕ) → left_by before key ≡ None → value_of (lay_all before rows) key ≡ value_of rows key
+kept_value before rows key e = value_of-lay_all before rows key ∙ after-none (last_change key before) (value_of rows key) e
 
 -- each read of operations whose answers are right over these rows is met by them
-pub are_met : (rows : List (ℕ × ℕ)) (keys : List ℕ) (ops : List Operation) → AreRight false ops rows →
-    (r : ℕ) (read : TheRead) → slice_get (reads_of keys ops) r ≡ Some read → meets read.need (value_of rows read.key) ≡ true
-are_met rows keys ops right = first_met rows keys ops right (length ops)
+pub is_met : (rows : List (ℕ × ℕ)) (ops : List Operation) → AreRight false ops rows → (n key : ℕ) (need : Need) → IsRead false ops n key need → meets need (value_of rows key) ≡ true
+is_met rows ops right n key need r =
+    let here = right n r.op r.there in
+    said_met r.op key need (value_of rows key) here.by_key
+    (subst (λ (v : Option ℕ). tells key r.op v ≡ true) (kept_value (take n ops) rows key r.unchanged) (here.allowed key)) r.says

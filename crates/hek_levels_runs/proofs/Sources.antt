@@ -1,5 +1,6 @@
 -- Of whom a key has its value at a place: the last writer of the key that commits before, or the opening.
 use Rattle.std.proofs.Common.{◌≡◌, ℕ, ◌<◌, ◌≤◌, true, List, Option, Some, sym, ap, ◌∙◌, subst, inl, inr, take}
+use Rattle.std.specs.Global.{Vec}
 use Rattle.hek_rules.specs.Listing.{value_of}
 use Rattle.hek_history.specs.declared.history.History.{History}
 use Rattle.hek_history.specs.declared.history.Point.{Point}
@@ -14,7 +15,7 @@ use Rattle.hek_levels.specs.declared.certificate.Writer.TheVariants as writer
 use Rattle.hek_levels.specs.Logs.{does_write, left_by}
 use Rattle.hek_levels.specs.Seen.{rank}
 use Rattle.hek_history_levels.specs.Steps.{IsLogOf}
-use Rattle.hek_levels_runs.specs.Laws.{commits_of}
+use Rattle.hek_levels.specs.Points.{commits_of}
 use Rattle.hek_levels_runs.proofs.Logged.{so_writes, left_is, opening_is}
 use Rattle.hek_levels_runs.proofs.Commits.{rank_upto}
 
@@ -43,7 +44,7 @@ opening_apart x e = cc
 one_transaction : (x y : ℕ) → writer.Transaction x ≡ writer.Transaction y → x ≡ y
 one_transaction x y e = cc
 
-module _ (h : History) (points : List Point) (e : IsExplanation h points) (turns : List (Option Turn)) (log : Log) (l : IsLogOf h turns log) where
+module _ (h : History) (points : List Point) (e : IsExplanation h points) (turns : List (Vec Turn)) (log : Log) (l : IsLogOf h turns log) where
   -- where nobody has written the key, where somebody has, and in either case
   of_opening : (key i : ℕ) → IsUntouched h key h.rows.items points i → IsSourceAt h points log key i writer.Opening
   of_opening key i u = record {

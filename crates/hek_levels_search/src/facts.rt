@@ -1,271 +1,284 @@
-//! What is shown so far, as the checker of certificates has it, with the steps that showed it.
-use crate::table::Table;
-use hek_levels::{Log, Read, Writer, reads_of};
-use hek_levels_refutation::Step;
+//! What the search has found or assumed, each fact with its rule and the facts on which it rests.
+use crate::lists::{add, at, part};
+use crate::nodes::OPENING;
+use crate::problem::Source;
 use hek_rules::NoMemory;
 use std::alloc::Global;
 
-/// A read of a transaction.
+/// What a fact says.
 #[derive(Clone, Copy)]
-pub(crate) struct Unit {
-    pub reader: usize,
-    pub place: usize,
-    pub read: Read,
+pub(crate) enum Says {
+    /// The moment of a node is before that of another.
+    Before { first: usize, second: usize },
+    /// The source of a reading.
+    Source { reading: usize, source: Source },
+    /// What isn't the source of a reading.
+    Not { reading: usize, source: Source },
+    /// A transaction takes place.
+    Taken(usize),
+    /// The facts on which it rests contradict each other.
+    Contradiction,
 }
 
-/// What is shown. A writer is named by its number: the opening by 0, and the transaction x by x + 1. A read is named by its
-/// number among all.
+/// By which rule a fact follows from those on which it rests. Where a transaction isn't known to have committed, the fact that
+/// it takes place is one of them.
 #[derive(Clone, Copy)]
-pub(crate) enum Fact {
-    Before(usize, usize),
-    Occurs(usize),
-    From(usize, usize),
-    Source(usize, usize),
-    Not(usize, usize),
-    Visible(usize, usize),
+pub(crate) enum Rule {
+    /// The opening is before all else.
+    First,
+    /// A transaction begins before it commits.
+    Own,
+    /// From a transaction to the tick of the last number of its turn.
+    Enter,
+    /// From a tick to the next.
+    Later,
+    /// From a tick to a transaction, by its turn at this place.
+    Leave(usize),
+    /// The source of a reading is before the reader.
+    Read(usize),
+    /// A path goes from the source of a reading to another writer of its key: the reader begins before that.
+    After(usize),
+    /// A path goes from another writer of a reading's key to where the reader begins: that writer is before the source.
+    Precedes(usize),
+    /// A reading sees another writer of its key, by these hops: that writer is before the source.
+    Seen {
+        reading: usize,
+        from: usize,
+        to: usize,
+    },
+    /// Both write the key, and a path goes from the commit of the first, or its begin, to the commit of the second: the first commits
+    /// before the second begins.
+    Winner {
+        first: usize,
+        second: usize,
+        key: usize,
+    },
+    /// A decision.
+    Assumed,
+    /// The decision came to a conflict, together with others.
+    Case {
+        decision: usize,
+        conflict: usize,
+    },
+    /// All other sources are excluded.
+    LastSource,
+    /// A path goes from the reader to the writer.
+    NotLater,
+    /// A path of so many facts goes from the writer to another one of the key, and one from that to the reader.
+    NotCovered(usize),
+    /// The transaction is before one that takes place.
+    Inside,
+    /// Each fact says that a moment is before that of the next, and the last one's before that of the first.
+    Cycle,
+    /// No candidate of a reading is left.
+    NoSource(usize),
+    /// A transaction takes place whose own answers contradict its changes.
+    Impossible(usize),
 }
 
-/// A fact, and its contrary if it is assumed.
+/// What is known, since when, and why.
 #[derive(Clone, Copy)]
-struct Entry {
-    fact: Fact,
-    contrary: Option<Fact>,
+pub(crate) struct Fact {
+    pub says: Says,
+    pub rule: Rule,
+    /// How many decisions were open: those below 1 rest on none.
+    pub level: usize,
+    /// The part of the list of premises.
+    from: usize,
+    to: usize,
 }
 
-/// A number, and where the fact that says it is shown.
-#[derive(Clone, Copy)]
-pub(crate) struct Spot {
-    pub number: usize,
-    pub place: usize,
-}
+/// What is said past the end of the list.
+const NOTHING: Fact = Fact {
+    says: Says::Before {
+        first: OPENING,
+        second: OPENING,
+    },
+    rule: Rule::First,
+    level: 0,
+    from: 0,
+    to: 0,
+};
 
-/// All that is shown.
+/// All facts, each named by its place, and those that are cited for the next one.
 #[derive(Drop)]
 pub(crate) struct Facts {
-    /// How many transactions there are.
-    pub count: usize,
-    pub units: Vec<Unit>,
-    pub before: Table,
-    pub nots: Table,
-    pub visible: Table,
-    occurs: Vec<Option<usize>>,
-    from: Vec<Option<Spot>>,
-    source: Vec<Option<Spot>>,
-    shown: Vec<Entry>,
-    pub steps: Vec<Step>,
-    /// Whether something was shown since this was last set to false.
-    pub has_changed: bool,
-    /// Whether there is no explanation.
-    pub is_over: bool,
-}
-
-/// The writer of a number.
-pub(crate) fn writer_of(number: usize) -> Writer {
-    if number == 0 {
-        Writer::Opening
-    } else {
-        Writer::Transaction(number - 1)
-    }
-}
-
-/// All reads of a log.
-fn units_of(alloc: Global, log: &Log) -> Result<Vec<Unit>, NoMemory> {
-    let mut units = Vec::new(alloc);
-    for reader in 0..log.transactions.len() {
-        for (place, read) in reads_of(log, reader).iter().enumerate() {
-            units.push(Unit {
-                reader,
-                place,
-                read: *read,
-            })?;
-        }
-    }
-    Ok(units)
-}
-
-/// So many times nothing.
-fn none_of(alloc: Global, count: usize) -> Result<Vec<Option<usize>>, NoMemory> {
-    let mut items = Vec::new(alloc);
-    for _n in 0..count {
-        items.push(None)?;
-    }
-    Ok(items)
-}
-
-/// So many times nothing.
-fn no_spots(alloc: Global, count: usize) -> Result<Vec<Option<Spot>>, NoMemory> {
-    let mut items = Vec::new(alloc);
-    for _n in 0..count {
-        items.push(None)?;
-    }
-    Ok(items)
+    facts: Vec<Fact>,
+    premises: Vec<usize>,
+    cited: usize,
 }
 
 impl Facts {
-    /// Nothing is shown.
-    pub(crate) fn new(alloc: Global, log: &Log) -> Result<Facts, NoMemory> {
-        let count = log.transactions.len();
-        let units = units_of(alloc, log)?;
-        let reads = units.len();
-        let before = Table::new(alloc, count + 1, count + 1)?;
-        let nots = Table::new(alloc, reads, count + 1)?;
-        let visible = Table::new(alloc, reads, count)?;
-        let occurs = none_of(alloc, count)?;
-        let from = no_spots(alloc, reads)?;
-        let source = no_spots(alloc, reads)?;
-        Ok(Facts {
-            count,
-            units,
-            before,
-            nots,
-            visible,
-            occurs,
-            from,
-            source,
-            shown: Vec::new(alloc),
-            steps: Vec::new(alloc),
-            has_changed: false,
-            is_over: false,
-        })
-    }
-
-    /// Where it is shown that t takes place.
-    pub(crate) fn occurs_at(&self, t: usize) -> Option<usize> {
-        match self.occurs.get(t) {
-            Some(place) => *place,
-            None => None,
+    pub(crate) fn new(alloc: Global) -> Facts {
+        Facts {
+            facts: Vec::new(alloc),
+            premises: Vec::new(alloc),
+            cited: 0,
         }
     }
 
-    /// From which number on the source of a read is.
-    pub(crate) fn from_at(&self, u: usize) -> Option<Spot> {
-        match self.from.get(u) {
-            Some(spot) => *spot,
-            None => None,
-        }
+    pub(crate) fn len(&self) -> usize {
+        self.facts.len()
     }
 
-    /// The source of a read.
-    pub(crate) fn source_at(&self, u: usize) -> Option<Spot> {
-        match self.source.get(u) {
-            Some(spot) => *spot,
-            None => None,
-        }
+    /// The fact that was added last.
+    pub(crate) fn last(&self) -> usize {
+        self.facts.len().saturating_sub(1)
     }
 
-    /// A read by its number.
-    pub(crate) fn unit(&self, u: usize) -> Option<Unit> {
-        self.units.get(u).copied()
+    pub(crate) fn get(&self, place: usize) -> Fact {
+        at(self.facts.as_slice(), place, NOTHING)
     }
 
-    /// What is shown at a place.
-    fn entry_at(&self, place: usize) -> Option<Entry> {
-        self.shown.get(place).copied()
+    /// The facts on which a fact rests.
+    pub(crate) fn premises(&self, place: usize) -> &[usize] {
+        let fact = self.get(place);
+        part(self.premises.as_slice(), fact.from, fact.to)
     }
 
-    /// A fact is shown at a place.
-    fn record(&mut self, fact: Fact, place: usize) {
+    /// Cites a fact for the next one.
+    pub(crate) fn cite(&mut self, fact: usize) -> Result<(), NoMemory> {
+        add(&mut self.premises, fact)
+    }
+
+    /// Cites a fact for the next one, if there is one.
+    pub(crate) fn cite_option(&mut self, fact: Option<usize>) -> Result<(), NoMemory> {
         match fact {
-            Fact::Before(first, second) => self.before.put(first, second, place),
-            Fact::Occurs(t) => {
-                if t < self.occurs.len() {
-                    self.occurs[t] = Some(place);
-                }
-            }
-            Fact::From(u, number) => {
-                if u < self.from.len() {
-                    self.from[u] = Some(Spot { number, place });
-                }
-            }
-            Fact::Source(u, number) => {
-                if u < self.source.len() {
-                    self.source[u] = Some(Spot { number, place });
-                }
-            }
-            Fact::Not(u, number) => self.nots.put(u, number, place),
-            Fact::Visible(u, x) => self.visible.put(u, x, place),
+            Some(place) => self.cite(place),
+            None => Ok(()),
         }
     }
 
-    /// One more is shown.
-    fn push(&mut self, entry: Entry) -> Result<(), NoMemory> {
-        let place = self.shown.len();
-        self.shown.push(entry)?;
-        self.record(entry.fact, place);
-        self.has_changed = true;
+    /// Cites facts for the next one.
+    pub(crate) fn cite_all(&mut self, facts: &[usize]) -> Result<(), NoMemory> {
+        self.premises.extend_from_slice(facts)?;
         Ok(())
     }
 
-    /// A step shows a fact.
-    pub(crate) fn add(&mut self, step: Step, fact: Fact) -> Result<(), NoMemory> {
-        self.steps.push(step)?;
-        self.push(Entry {
-            fact,
-            contrary: None,
+    /// Cites nothing any more.
+    pub(crate) fn cite_nothing(&mut self) {
+        self.premises.truncate(self.cited);
+    }
+
+    /// Adds a fact that rests on those that were cited, and needs so many open decisions at least. Answers its place.
+    pub(crate) fn add(&mut self, says: Says, rule: Rule, least: usize) -> Result<usize, NoMemory> {
+        let from = self.cited;
+        let to = self.premises.len();
+        let mut level = least;
+        for premise in part(self.premises.as_slice(), from, to) {
+            level = level.max(self.get(*premise).level);
+        }
+        self.cited = to;
+        self.push(Fact {
+            says,
+            rule,
+            level,
+            from,
+            to,
         })
     }
 
-    /// A step assumes a fact.
-    pub(crate) fn assume(
-        &mut self,
-        step: Step,
-        fact: Fact,
-        contrary: Fact,
-    ) -> Result<(), NoMemory> {
-        self.steps.push(step)?;
-        self.push(Entry {
-            fact,
-            contrary: Some(contrary),
+    /// Adds a fact. Answers its place.
+    fn push(&mut self, fact: Fact) -> Result<usize, NoMemory> {
+        let place = self.facts.len();
+        add(&mut self.facts, fact)?;
+        Ok(place)
+    }
+
+    /// Adds a fact that rests on no other, while others are cited for the next one.
+    pub(crate) fn add_apart(&mut self, says: Says, rule: Rule) -> Result<usize, NoMemory> {
+        self.push(Fact {
+            says,
+            rule,
+            ..NOTHING
         })
     }
 
-    /// The tables have what is shown, and no more.
-    fn rebuild(&mut self) {
-        self.before.clear();
-        self.nots.clear();
-        self.visible.clear();
-        for t in 0..self.occurs.len() {
-            self.occurs[t] = None;
-        }
-        for u in 0..self.from.len() {
-            self.from[u] = None;
-        }
-        for u in 0..self.source.len() {
-            self.source[u] = None;
-        }
-        for place in 0..self.shown.len() {
-            if let Some(entry) = self.entry_at(place) {
-                self.record(entry.fact, place);
-            }
-        }
-    }
-
-    /// The last that is assumed, and its contrary.
-    fn last_assumed(&self) -> Option<(usize, Fact)> {
-        for (place, entry) in self.shown.iter().enumerate().rev() {
-            if let Some(contrary) = entry.contrary {
-                return Some((place, contrary));
+    /// The first of the premises that says that a transaction takes place.
+    pub(crate) fn taken_of(&self, place: usize, t: usize) -> Option<usize> {
+        for premise in self.premises(place) {
+            if let Says::Taken(other) = self.get(*premise).says {
+                if other == t {
+                    return Some(*premise);
+                }
             }
         }
         None
     }
 
-    /// A step comes to a contradiction.
-    pub(crate) fn contradict(&mut self, step: Step) -> Result<(), NoMemory> {
-        self.steps.push(step)?;
-        match self.last_assumed() {
-            None => {
-                self.is_over = true;
-                Ok(())
-            }
-            Some((place, contrary)) => {
-                self.shown.truncate(place);
-                self.rebuild();
-                self.push(Entry {
-                    fact: contrary,
-                    contrary: None,
-                })
+    /// The first of the premises that says what the source of a reading is.
+    pub(crate) fn settled_in(&self, place: usize, reading: usize) -> Option<usize> {
+        for premise in self.premises(place) {
+            if let Says::Source { reading: other, .. } = self.get(*premise).says {
+                if other == reading {
+                    return Some(*premise);
+                }
             }
         }
+        None
+    }
+
+    /// How many of the first premises of a fact say that one node is before another: the path on which it rests.
+    pub(crate) fn path_len(&self, place: usize) -> usize {
+        let mut count: usize = 0;
+        for premise in self.premises(place) {
+            let Says::Before { .. } = self.get(*premise).says else {
+                return count;
+            };
+            count = count.saturating_add(1);
+        }
+        count
+    }
+
+    /// A premise by its place; after the last one comes the first again.
+    pub(crate) fn premise(&self, fact: usize, place: usize) -> usize {
+        let all = self.premises(fact);
+        let turned = if place < all.len() {
+            place
+        } else {
+            place.saturating_sub(all.len())
+        };
+        at(all, turned, usize::MAX)
+    }
+
+    /// The nodes of a fact that one moment is before another.
+    pub(crate) fn ends(&self, fact: usize) -> (usize, usize) {
+        match self.get(fact).says {
+            Says::Before { first, second } => (first, second),
+            _ => (OPENING, OPENING),
+        }
+    }
+
+    /// The first of the premises of a fact that excludes a source.
+    pub(crate) fn exclusion(&self, fact: usize, source: Source) -> usize {
+        for premise in self.premises(fact) {
+            if let Says::Not { source: other, .. } = self.get(*premise).says {
+                if other == source {
+                    return *premise;
+                }
+            }
+        }
+        usize::MAX
+    }
+
+    /// Whether a fact leads to a tick of the clock.
+    pub(crate) fn leads_to_tick(&self, place: usize) -> bool {
+        match self.get(place).rule {
+            Rule::Enter | Rule::Later => true,
+            _ => false,
+        }
+    }
+}
+
+/// A step of the search goes no further: facts contradict each other, as this one says, or the memory is full.
+#[derive(Clone, Copy)]
+pub(crate) enum Stop {
+    Conflict(usize),
+    NoMemory,
+}
+
+impl From<NoMemory> for Stop {
+    fn from(_error: NoMemory) -> Stop {
+        Stop::NoMemory
     }
 }

@@ -1,31 +1,41 @@
-//! A search for what shows that a log has an explanation by some rules, or that it has none.
+//! Looks for what shows that a log has an explanation by some rules, or that it has none. What it finds is a verdict only once it was
+//! judged by hek_levels or hek_levels_refutation.
 #![tactic(auto)]
 
-mod choosing;
-mod cowriting;
+mod certificate;
+mod claims;
+mod clock;
 mod cycle;
-mod explaining;
 mod facts;
-mod finding;
+mod front;
 mod graph;
+mod guessed;
+mod hops;
 mod judging;
-mod linking;
+mod keys;
+mod known;
+mod lanes;
+mod listing;
 mod lists;
-mod looking;
-mod losing;
-mod ordering;
+mod narrowing;
+mod nodes;
+mod order;
 mod problem;
-mod refuting;
-mod saturating;
-mod seeing;
-mod sorting;
-mod sources;
+mod queues;
+mod repair;
+mod replay;
+mod resolve;
+mod rows_within;
+mod seek;
+mod sight;
 mod sourcing;
-mod state;
-mod table;
-mod telling;
-mod trying;
-mod turns;
-mod writers;
+mod start;
+mod steps;
+mod visible;
 
-pub use judging::{Verdict, judge};
+pub use judging::{Guess, Hint, Progress, Shown, Verdict, judge};
+pub use keys::Keys;
+pub use lists::{add, at, part, put, reverse_from};
+pub use problem::{
+    Absence, Candidates, Counted, Left, NO_READING, Problem, Reading, Source, meets, reduced,
+};

@@ -1,42 +1,23 @@
-//! Parts of lists.
+//! Parts of lists, and lists of lists.
 use hek_rules::NoMemory;
 
-/// No place.
-pub(crate) const NONE: usize = usize::MAX;
-
-/// Places from the first on and before the second.
-#[derive(Clone, Copy)]
-pub(crate) struct Span {
-    pub from: usize,
-    pub to: usize,
-}
-
 /// Adds something to the end of a list.
-pub(crate) fn add<T: Copy>(list: &mut Vec<T>, value: T) -> Result<(), NoMemory> {
+pub fn add<T: Copy>(list: &mut Vec<T>, value: T) -> Result<(), NoMemory> {
     list.push(value)?;
     Ok(())
 }
 
-/// A list of so many times the same.
-pub(crate) fn fill<T: Copy>(list: &mut Vec<T>, count: usize, value: T) -> Result<(), NoMemory> {
-    list.clear();
-    for _n in 0..count {
-        list.push(value)?;
-    }
-    Ok(())
-}
-
 /// The part of a list from a place up to another, or nothing if the list has no such part.
-pub(crate) fn part<T>(list: &[T], span: Span) -> &[T] {
-    if span.from <= span.to && span.to <= list.len() {
-        &list[span.from..span.to]
+pub fn part<T>(list: &[T], from: usize, to: usize) -> &[T] {
+    if from <= to && to <= list.len() {
+        &list[from..to]
     } else {
         &[]
     }
 }
 
 /// What stands at a place, or the other past the end.
-pub(crate) fn at<T: Copy>(list: &[T], place: usize, other: T) -> T {
+pub fn at<T: Copy>(list: &[T], place: usize, other: T) -> T {
     match list.get(place) {
         Some(there) => *there,
         None => other,
@@ -44,40 +25,37 @@ pub(crate) fn at<T: Copy>(list: &[T], place: usize, other: T) -> T {
 }
 
 /// Puts something at a place, if the list has that place.
-pub(crate) fn put<T: Copy>(list: &mut Vec<T>, place: usize, value: T) {
+pub fn put<T: Copy>(list: &mut Vec<T>, place: usize, value: T) {
     if let Some(there) = list.get_mut(place) {
         *there = value;
     }
 }
 
-/// The number at a place is one more from now on.
-pub(crate) fn raise(list: &mut Vec<usize>, place: usize) {
-    if let Some(there) = list.get_mut(place) {
-        *there = there.saturating_add(1);
+/// The list at a place, or an empty one.
+pub fn list_at<T>(lists: &[Vec<T>], place: usize) -> &[T] {
+    match lists.get(place) {
+        Some(list) => list.as_slice(),
+        None => &[],
     }
 }
 
-/// The number at a place is one less from now on. Answers what it is then.
-pub(crate) fn lower(list: &mut Vec<usize>, place: usize) -> usize {
-    let less = at(list.as_slice(), place, 0).saturating_sub(1);
-    put(list, place, less);
-    less
-}
-
-/// The numbers are sums from now on: at each place of all that were before it.
-pub(crate) fn sum_up(list: &mut Vec<usize>) {
-    let mut sum: usize = 0;
-    for place in 0..list.len() {
-        let here = at(list.as_slice(), place, 0);
-        put(list, place, sum);
-        sum = sum.saturating_add(here);
+/// Adds something to the end of the list at a place, if there is one.
+pub fn add_in<T: Copy>(lists: &mut Vec<Vec<T>>, place: usize, value: T) -> Result<(), NoMemory> {
+    match lists.get_mut(place) {
+        Some(list) => add(list, value),
+        None => Ok(()),
     }
 }
 
-/// What stands from one of these places up to the next.
-pub(crate) fn span_at(starts: &[usize], place: usize) -> Span {
-    Span {
-        from: at(starts, place, 0),
-        to: at(starts, place.saturating_add(1), 0),
+/// The place of the first of rising numbers that isn't below another.
+pub fn place_from(rising: &[u64], least: u64) -> usize {
+    rising.partition_point(|one| *one < least)
+}
+
+/// Reverses a list from a place on.
+pub fn reverse_from<T>(list: &mut Vec<T>, from: usize) {
+    if from <= list.len() {
+        let (_before, rest) = list.split_at_mut(from);
+        rest.reverse();
     }
 }

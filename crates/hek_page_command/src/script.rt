@@ -180,7 +180,8 @@ function need(column, size, isNarrow) { const { tops, value } = wordsOf(column),
   return clamp(1.2, Math.max(wide(tops.at(-1), S), wide(value, column.kind === "scan" ? S : size, 700)) + (isNarrow ? 0.3 : 0.8), most); }
 function slotsOf(stories) { const all = stories.map(({ columns }) => { let [place, late] = [-2, 0]; return columns.map((column, index) => {
       const own = stories.length === 1 ? index : column.place; late = own === place ? late + 1 : 0; place = own; return own * 1000 + late; }); });
-  const slots = [...new Set(all.flat())].sort((a, b) => a - b); return { count: slots.length, of: all.map((its) => its.map((slot) => slots.indexOf(slot))) }; }
+  const slots = new Map([...new Set(all.flat())].sort((a, b) => a - b).map((slot, index) => [slot, index]));
+  return { count: slots.size, of: all.map((its) => its.map((slot) => slots.get(slot))) }; }
 function spread(stories, slots, widths, least) {
   const xs = [], last = stories.map(() => new Map()), columnAt = slots.of.map((its) => new Map(its.map((slot, index) => [slot, index])));
   for (let slot = 0; slot < slots.count; slot++) { let x = slot ? xs[slot - 1] + least : 0; stories.forEach(({ columns }, which) => {
@@ -211,7 +212,7 @@ function layout(story, { w, h, u, all = [story], rows = true }) {
   const left = (index) => mid(index) - (widths[index] ?? first) / 2, right = (index) => (index ? mid(index - 1) + (widths[index - 1] ?? first) / 2 : pad);
   const high = heights(story, { h, u, rows, isNarrow });
   return { w: Math.max(most + tail, w - gutter), u, count: story.columns.length, gutter, pad, nameSize, size: high.high > 3.6 * u ? way.size : Math.min(way.size, L), isNarrow, mid, left, right,
-    width: (index) => widths[index] ?? first, ...high }; }
+    width: (index) => widths[index] ?? first, boxes: [], ...high }; }
 function heights(story, { h, u, rows, isNarrow }) {
   const lanes = story.names.length, count = rows ? story.tracks.length + story.always.length : 0, top = (story.views.length ? 1.5 : 0.4) * u;
   const least = (lanes > 5 ? 3.3 : isNarrow ? 4.4 : rows ? 3.7 : 2.7) * u, isShort = count > 6 || top + (2.05 * count + 1) * u + lanes * least > h;
@@ -290,19 +291,20 @@ function edges(story, at) {
   const line = ({ curve, tip, isDown, size }) => path(curved(curve), "edge") + head(...tip, isDown, size * 1.5, "bad");
   const label = ({ x, y, w }, index) => rect(x - w / 2, y - h / 2, w, h, "bad", 0.3 * at.u) + text(x, y + 0.35 * type, type, words[index], "b on");
   return curves.map(line).join("") + used.map(label).join(""); }
-function life(story, at, t, step) { const own = story.columns.flatMap((column, index) => (column.t === t && index < step ? [index] : []));
-  if (!own.length) return ""; const last = own.at(-1), isOver = /commit|abort|unknown/.test(story.columns[last].kind), y = r1(at.y(t) + at.high / 2);
-  return path(`M${r1(at.left(own[0]) + 3)} ${y}H${r1(isOver ? at.mid(last) : at.right(step))}`, `life s${colour(t)}`); }
+function lives(story, at, step) { const firsts = new Map(), lasts = new Map(); story.columns.slice(0, step).forEach(({ t }, index) => {
+    if (!firsts.has(t)) firsts.set(t, index); lasts.set(t, index); }); return [...firsts].sort(([one], [other]) => one - other).map(([t, first]) => {
+    const last = lasts.get(t), isOver = /commit|abort|unknown/.test(story.columns[last].kind), y = r1(at.y(t) + at.high / 2);
+    return path(`M${r1(at.left(first) + 3)} ${y}H${r1(isOver ? at.mid(last) : at.right(step))}`, `life s${colour(t)}`); }).join(""); }
 const labelOf = (column, index) => `${index + 1}: ${plain(column.say ?? "")}`; function lanes(story, at, step, isLive = false) {
   const isEnd = step > at.count, now = Math.min(step, at.count), isCycle = isEnd && story.verdict.kind === "not", kept = inCycle(story), h = at.lane * story.names.length;
   const band = now > 0 && !isEnd ? rect(at.left(now - 1), 0, at.width(now - 1), h, "band") : "", dim = (is) => (is ? ' class="dim"' : "");
-  const rules = story.names.map((_, t) => path(`M0 ${r1(at.y(t) + at.high / 2)}H${r1(at.w)}`, "rule")).join(""), lives = story.names.map((_, t) => life(story, at, t, now)).join("");
+  const rules = story.names.map((_, t) => path(`M0 ${r1(at.y(t) + at.high / 2)}H${r1(at.w)}`, "rule")).join("");
   const bars = story.waits.filter((wait) => wait.from < now).map((wait) => `<g${dim(isCycle)}>${waitBar(story, at, wait, now)}</g>`).join("");
   const live = (column, index) => isLive ? ` data-step="${index + 1}" role="button" tabindex="${index === now - 1 ? 0 : -1}" aria-label="${esc(labelOf(column, index))}"${index === step - 1 ? ' aria-current="step"' : ""}` : "";
-  const boxes = story.columns.slice(0, now).map((column, index) => `<g${live(column, index)}${dim(isCycle && !kept.has(index))}>${title(plain(column.say ?? ""))}${boxOf(column, at, index)}</g>`).join("");
+  const boxes = story.columns.slice(0, now).map((column, index) => `<g${live(column, index)}${dim(isCycle && !kept.has(index))}>${at.boxes[index] ??= `${title(plain(column.say ?? ""))}${boxOf(column, at, index)}`}</g>`).join("");
   const under = isCycle ? story.columns.map((column, index) => (column.kind === "wait" ? "" : rect(at.left(index) + 2, at.y(column.t), at.width(index) - 4, at.high, "chip", column.kind === "commit" ? at.high / 2 : 6))).join("") : "";
   const arrows = isCycle ? "" : frees(story, at, now), found = isCycle ? edges(story, at) : links(story, at, now);
-  return svg(at.w, h, `Lanes of ${story.names.join(", ")} after ${now} of ${at.count} moves`, DEFS + band + rules + lives + bars + arrows + under + boxes + found, isLive ? "group" : "img"); }
+  return svg(at.w, h, `Lanes of ${story.names.join(", ")} after ${now} of ${at.count} moves`, DEFS + band + rules + lives(story, at, now) + bars + arrows + under + boxes + found, isLive ? "group" : "img"); }
 return { names, labelOf, lanes }; })(); Story.rows = (() => { const { cut, fitting, list, wide } = Story.text;
 const { DEFS, M, S, colour, path, r1, rect, svg, text, title } = Story.svg; const NONE = "–";
 const height = (story, at) => at.top + at.row * (story.tracks.length + story.always.length) + 4; function keys(story, at) {
@@ -357,13 +359,14 @@ function tracks(story, at, step) {
   return svg(at.w, low + 4, `Rows after ${now} moves`, parts.join("")); }
 return { keys, tracks }; })(); Story.cards = (() => { const { esc, grouped, wide } = Story.text;
 const { DEFS, S, colour, path, r1, rect, svg, text, title } = Story.svg; const { VERDICTS, verdictKind } = Story.story; const NONE = "–";
-function mini(story, w, h, u, step) {
+function mini(story, w, h, u) {
   const count = Math.max(story.columns.length, 1), column = w / count, lane = h / story.names.length, high = lane * 0.8, y = (t) => t * lane + lane * 0.1, size = Math.min(S * u, high * 0.9);
   const rules = story.names.map((_, t) => path(`M0 ${r1(y(t) + high / 2)}H${r1(w)}`, "rule")).join("");
   const waits = story.waits.map(({ t, from, to, by }) => { const until = by !== null && (to === null || by < to) ? by + 0.6 : to ?? count;
     return rect(from * column + 1, y(t) + high * 0.1, (until - from) * column - 2, high * 0.8, "hatch", 2); }).join("");
   const boxes = story.columns.map((it, index) => (column < 9 ? tiny(it, index * column, y(it.t), column - 0.5, high) : small(it, index * column, y(it.t), column, high, size))).join("");
-  return svg(w, h, `the run at ${story.level || "its levels"}`, DEFS + rules + waits + boxes + (step > 0 && step <= story.columns.length ? path(`M${r1(step * column)} 0V${r1(h)}`, "mark") : "")); }
+  return svg(w, h, `the run at ${story.level || "its levels"}`, DEFS + rules + waits + boxes + `<line y2="100%" class="mark" visibility="hidden"/>`); }
+const markAt = (story, step) => (step > 0 && step <= story.columns.length ? `${r1((100 * step) / story.columns.length)}%` : null);
 function tiny({ kind, t }, x, y, w, h) {
   const kinds = { read: `faint f${colour(t)}`, scan: `faint f${colour(t)}`, write: `f${colour(t)}`, abort: "bad", commit: "inkf" };
   return rect(x, y, w, h, kinds[kind] ?? "none"); }
@@ -399,7 +402,7 @@ const hasOutcome = (story) => (outcome) => verdictKind(outcome.verdict) === stor
   outcome.rows.every(([key, value]) => story.tracks.find((it) => it.key === key)?.segments.at(-1).value === value); function endOf({ ends, columns }, t) {
   if (ends[t] !== "abort") return ends[t] === "commit" ? "committed" : "unended";
   return `aborted ${columns.find((it) => it.t === t && it.kind === "abort").cause}`; }
-return { mini, sorted, saidOutcome, BAR, bars, hasOutcome, endOf }; })(); Story.figure = (() => { const { fitting, plain, wide } = Story.text;
+return { mini, markAt, sorted, saidOutcome, BAR, bars, hasOutcome, endOf }; })(); Story.figure = (() => { const { fitting, plain, wide } = Story.text;
 const { COLOURS, L, M, S, STYLE, XL, rect, r1, svg, text } = Story.svg; const { layout } = Story.layout; const { lanes, names } = Story.lanes;
 const { keys, tracks } = Story.rows; const painted = (drawing, colours) => drawing.replace(/var\(--(\w+)\)/g, (all, name) => colours[name] ?? all);
 function saying(story, step) { if (step === 0) return { say: "", isBad: false };
@@ -465,9 +468,10 @@ function edgeEnds({ kind, key, read: seen, written, from, to, operations, words 
   const isAt = (it) => same(it.key, key), reads = (name, value) => own(name).findLast((it) => foundBy(moves[it]).some((pair) => same(pair, [key, value]))) ?? own(name).findLast((it) => (moves[it].kind === "read" || moves[it].kind === "miss") && isAt(moves[it])) ?? own(name).findLast((it) => moves[it].kind === "scan");
   const writes = (name, value) => own(name).findLast((it) => moves[it].kind === "write" && isAt(moves[it]) && (value === null || value === undefined || same(moves[it].value, value))) ?? own(name).findLast((it) => moves[it].kind === "write" && isAt(moves[it]));
   return [kind === "rw" ? reads(from, seen) : writes(from, kind === "wr" ? seen ?? written : null), kind === "wr" ? reads(to, seen ?? written) : writes(to, kind === "rw" ? written : null)] .map((it, index) => it ?? own(index ? to : from).at(-1)); }
+const VERDICT = { holds: "serializable", serializable: "serializable", "serializable in another order": "serializable", fails: "not serializable", "not serializable": "not serializable" };
 function playOfLog(text, answer) { const { rows, txns: all } = read(text), edges = answer.cycle ?? [], txns = chosen(all, edges);
   const moves = txns.flatMap((txn) => [...txn.ops.map((op) => moveOf(op, txn.name, txn.line)), endOf(txn)]);
-  const cycle = edges.map((edge) => ({ ...edge, from: edge.from === null ? null : String(edge.from), to: edge.to === null ? null : String(edge.to), ends: edgeEnds(edge, moves) }));
+  const cycle = edges.map((edge) => ({ ...edge, from: edge.from === null || edge.from === undefined ? null : String(edge.from), to: edge.to === null ? null : String(edge.to), ends: edgeEnds(edge, moves) }));
   const order = constraints(txns, moves, cycle).order(moves), place = (index) => order.indexOf(index) + 1;
   const told = order.map((index) => ({ ...moves[index], ...found(moves[index], moves, rows, place) })); return {
     kind: "log", level: answer.level ?? "serializable", names: txns.map(({ name }) => name), levels: txns.map(({ level }) => level ?? "serializable"), order: null, moves: told, breaks: null,
@@ -498,8 +502,10 @@ function sentence(model, story, { step, mode }) { const column = story.columns[s
 function sentenceRoom(model, mode) { if (mode === "compare") return 3.2;
   const rows = Object.values(model.stories).map(({ verdict }) => verdict.edges.length + (verdict.breaks === null ? 0 : 1)), most = Math.max(0, ...rows), lines = most > 3 ? Math.ceil(most / 2) : most;
   return Math.max(6, (lines ? 4.8 : 3.2) + 1.4 * lines); }
-const cell = (kind, inside) => `<div class="${kind}">${inside}</div>`; function stage(story, step, { w, h, u }) {
-  const at = layout(story, { w, h, u }), parts = [cell("names", names(story, at, step)), cell("lanes", lanes(story, at, step, true))];
+const cell = (kind, inside) => `<div class="${kind}">${inside}</div>`; const laid = new WeakMap(); function laidOut(story, { w, h, u }) {
+  const room = `${w} ${h} ${u}`; if (laid.get(story)?.room !== room) laid.set(story, { room, at: layout(story, { w, h, u }) }); return laid.get(story).at; }
+function stage(story, step, room) {
+  const at = laidOut(story, room), parts = [cell("names", names(story, at, step)), cell("lanes", lanes(story, at, step, true))];
   if (story.tracks.length + story.always.length) parts.push(cell("names", keys(story, at)), cell("tracks", tracks(story, at, step)));
   return { html: parts.join(""), at }; }
 function compared(model, story, step, { w, h, u }) {
@@ -514,12 +520,11 @@ const swatch = ([kind, words]) => `<span class="kind"><svg class="pic" viewBox="
 function legend({ outcomes, levels, uncounted }) { const counted = levels.map((level) => outcomes[level]).find(Boolean);
   if (counted) return `<p class="st-legend">This order at each level, and all ${grouped(counted.orders)} orders by outcome: ${KINDS.map(swatch).join(" ")}. A bar plays one.</p>`;
   return `<p class="st-legend">This order at each level.${uncounted ? ` ${esc(uncounted)}` : ""}</p>`; }
-function cards(model, story, { level, step }, { w, u, narrow }) {
-  const inner = (narrow ? w : (w - 0.8 * u * (model.levels.length - 1)) / model.levels.length) - 1.4 * u;
+function cards(model, { level }, { w, u, narrow }) { const inner = (narrow ? w : (w - 0.8 * u * (model.levels.length - 1)) / model.levels.length) - 1.4 * u;
   return legend(model) + model.levels.map((name, index) => { const its = model.stories[name], counted = model.outcomes[name], isHere = name === level;
     if (!its) return `<div class="level"><p class="head">${esc(name)}</p></div>`;
     const isBad = its.verdict.kind === "not" || its.verdict.breaks !== null, head = `<span class="head"><span>${esc(name)}</span> <span class="end ${isBad ? "not" : ""}">${esc(shortVerdict(its))}</span></span>`;
-    const small = mini(its, inner, Math.min(3.9, 1.25 * its.names.length) * u, u, samePlace(story, step, its)), label = `this order at ${name}`;
+    const small = mini(its, inner, Math.min(3.9, 1.25 * its.names.length) * u, u), label = `this order at ${name}`;
     const card = isHere ? `<div class="card" aria-current="true">${head}${small}</div>` : `<button class="card" data-level="${esc(name)}" title="${index + 1}: ${label}">${head}${small}</button>`;
     return `<div class="level"${isHere ? " data-here" : ""} data-card="${esc(name)}">${card}${counted ? bars(counted, its.names, inner, u, hasOutcome(its)) : ""}</div>`; }).join(""); }
 function told(model, story, { level }, hidesAfter = Infinity) { const end = story.columns.length + 1, isOwn = model.isOwnOrder !== false;
@@ -569,12 +574,12 @@ pub(crate) const SCRIPT_SECOND: &str = r##"function worksheet(story) {
   const moves = story.columns.map((column, position) => (asked.has(position) ? item(asked.get(position)) : plainly(column, position))).join("");
   const last = asked.get(story.columns.length), rows = story.tracks.map(({ key }) => `${esc(key)} = ______`).join(" &nbsp; ");
   return `<ol class="sheet">${moves}${last ? item(last) : ""}</ol>${rows ? `<p>The rows at the end: ${rows}</p>` : ""}<p>${story.names.map((name, t) => `${rich(named(name), story.names)}: ☐ committed ☐ aborted`).join(" &nbsp; ")}</p>`; }
-return { questionAt, questions, questionHtml, result, worksheet }; })(); Story.player = (() => { const { BAR } = Story.cards;
+return { questionAt, questions, questionHtml, result, worksheet }; })(); Story.player = (() => { const { BAR, markAt } = Story.cards;
 const { cards, compared, sentence, sentenceRoom, stage, told } = Story.view; const { questionAt, questionHtml, questions, result } = Story.ask;
 const { samePlace } = Story.story; const { esc, rich } = Story.text; const NARROW = "(max-width: 50rem)";
 const FORWARD = { ArrowRight: 1, ArrowDown: 1, PageDown: 1, ArrowLeft: -1, ArrowUp: -1, PageUp: -1 }; const READING = 700; const LEAST_CARDS = 10;
 class Player { constructor(host) { this.host = host; this.model = this.place = null; this.reading = -Infinity; this.answers = new Map(); this.isAsking = false;
-    this.listen(); }
+    this.drawn = []; this.listen(); }
   get story() { return this.model?.stories[this.place.level] ?? null; }
   get end() { return (this.story?.columns.length ?? 0) + 1; }
   show(model, place, { scrolls = true } = {}) { const isNew = model !== this.model || place.level !== this.place?.level;
@@ -593,17 +598,23 @@ class Player { constructor(host) { this.host = host; this.model = this.place = n
     const { model, place, unit } = this, box = byId("st-cards"), isHidden = place.mode !== "" || place.asks || model.levels.length < 2, narrow = matchMedia(NARROW).matches;
     box.hidden = isHidden; if (isHidden) return put(box, ""); box.style.setProperty("--cards", model.levels.length);
     if (high === null) box.style.removeProperty("--high"); else box.style.setProperty("--high", `${high}px`);
-    for (const it of box.querySelectorAll(".more")) it.remove(); const scrolled = [...box.querySelectorAll(".level")].map((it) => it.scrollTop);
-    put(box, cards(model, story, place, { w: box.clientWidth, u: unit, narrow })); box.querySelectorAll(".level").forEach((card, index) => {
+    const w = box.clientWidth, drawn = [model, place.level, w, unit, narrow, high];
+    if (!box.put || drawn.some((it, index) => it !== this.drawn[index])) this.drawCards(box, cards(model, place, { w, u: unit, narrow })); this.drawn = drawn;
+    for (const card of box.querySelectorAll("[data-card]")) {
+      const its = model.stories[card.dataset.card], mark = card.querySelector(".mark"), x = markAt(its, samePlace(story, place.step, its));
+      mark.setAttribute("visibility", x === null ? "hidden" : "visible"); for (const name of ["x1", "x2"]) mark.setAttribute(name, x ?? 0); }
+    return undefined; }
+  drawCards(box, html) { for (const it of box.querySelectorAll(".more")) it.remove();
+    const scrolled = [...box.querySelectorAll(".level")].map((it) => it.scrollTop); put(box, html); box.querySelectorAll(".level").forEach((card, index) => {
       card.scrollTop = scrolled[index] ?? 0; if (card.scrollHeight <= card.clientHeight + 2) return;
-      const all = card.querySelectorAll("[data-order]").length, bar = BAR * unit, top = card.scrollTop + card.lastElementChild.getBoundingClientRect().top - card.getBoundingClientRect().top - card.clientTop, whole = Math.floor((card.clientHeight - top - 1.2 * unit) / bar), h = card.clientHeight - top - whole * bar + 1;
-      card.insertAdjacentHTML("beforeend", `<div class="more" style="height: ${h}px; margin-top: -${h}px">${all - whole} more ↓</div>`); }); return undefined; }
+      const all = card.querySelectorAll("[data-order]").length, bar = BAR * this.unit, top = card.scrollTop + card.lastElementChild.getBoundingClientRect().top - card.getBoundingClientRect().top - card.clientTop, whole = Math.floor((card.clientHeight - top - 1.2 * this.unit) / bar), h = card.clientHeight - top - whole * bar + 1;
+      card.insertAdjacentHTML("beforeend", `<div class="more" style="height: ${h}px; margin-top: -${h}px">${all - whole} more ↓</div>`); }); }
   showStage(story, isLast = false) {
     const { model, place, unit: u } = this, main = byId("st-main"), view = byId("st-stage"), narrow = matchMedia(NARROW).matches, style = getComputedStyle(main);
     const w = Math.floor(main.getBoundingClientRect().width - parseFloat(style.paddingLeft) - parseFloat(style.paddingRight)) - 1, below = byId("st-cards").hidden ? 0 : byId("st-cards").offsetHeight + 0.5 * u;
     const room = { w, h: narrow ? 0 : main.clientHeight - byId("st-say").offsetHeight - below - 1.2 * u, u };
     const { html, at } = place.mode === "compare" ? compared(model, story, place.step, room) : stage(story, place.step, room), hadFocus = view.contains(document.activeElement) && document.activeElement !== view;
-    put(byId("st-grid"), html); const left = byId("st-cards").offsetHeight - (view.scrollHeight - view.clientHeight) - 1;
+    draw(byId("st-grid"), html); const left = byId("st-cards").offsetHeight - (view.scrollHeight - view.clientHeight) - 1;
     if (!narrow && !isLast && below > 0 && view.scrollHeight > view.clientHeight + 1 && left >= LEAST_CARDS * u) { this.showCards(story, left);
       this.showStage(story, true); return; }
     if (hadFocus) (view.querySelector('[tabindex="0"]') ?? view).focus({ preventScroll: true });
@@ -662,10 +673,23 @@ class Player { constructor(host) { this.host = host; this.model = this.place = n
     else if (/^[1-4]$/.test(key) && this.model.levels[key - 1]) this.toLevel(this.model.levels[key - 1]);
     else if (key === "c" || key === "m") this.flip(key === "c" ? "compare" : "machine"); else return false; return true; } }
 const byId = (id) => document.getElementById(id); function put(element, html) { if (element.put === html) return; element.innerHTML = html; element.put = html; }
+function draw(element, html) { if (element.put === html) return; const wanted = element.cloneNode(false); wanted.innerHTML = html; become(element, wanted);
+  element.put = html; }
+function become(element, wanted) { let own = element.firstChild, its = wanted.firstChild; while (own && its) {
+    const [after, next] = [own.nextSibling, its.nextSibling]; if (own.isEqualNode(its)) [own, its] = [after, next];
+    else if (next && own.isEqualNode(next)) { element.insertBefore(its, own); its = next; }
+    else if (after?.isEqualNode(its)) { own.remove(); own = after; }
+    else { if (own.nodeType === Node.ELEMENT_NODE && own.nodeName === its.nodeName) { dress(own, its); become(own, its); } else own.replaceWith(its);
+      [own, its] = [after, next]; } }
+  while (own) { const after = own.nextSibling; own.remove(); own = after; }
+  while (its) { const next = its.nextSibling; element.append(its); its = next; } }
+function dress(element, wanted) { for (const name of element.getAttributeNames()) if (!wanted.hasAttribute(name)) element.removeAttribute(name);
+  for (const { name, value } of wanted.attributes) if (element.getAttribute(name) !== value) element.setAttribute(name, value); }
 function showText(element, text, story, step) {
   const column = story?.columns[step - 1], isEnd = step > (story?.columns.length ?? 0), broken = isEnd ? story?.verdict.breaks : column?.breaks;
-  put(element, text.trimEnd().split("\n").map((line) => `<span>${esc(line) || " "}</span>`).join("")); [...element.children].forEach((line, index) => {
-    line.classList.toggle("here", column?.line === index + 1); line.classList.toggle("broken", broken === index + 1); });
+  if (element.text !== text) put(element, text.trimEnd().split("\n").map((line) => `<span>${esc(line) || " "}</span>`).join("")); element.text = text;
+  for (const line of element.querySelectorAll(".here, .broken")) line.classList.remove("here", "broken");
+  element.children[column?.line - 1]?.classList.add("here"); element.children[broken - 1]?.classList.add("broken");
   const here = element.querySelector(".here, .broken") ?? (step === 0 ? element.firstElementChild : null);
   if (here) element.scrollTop = here.offsetTop - element.offsetTop - element.clientHeight / 2; }
 return { Player, showText }; })(); Story.page = (() => { const { Player, showText } = Story.player; const { playOfLog } = Story.log;
@@ -677,8 +701,7 @@ const levelOf = ({ level, levels }) => level ?? (new Set(levels).size === 1 ? le
     const outcomes = rows.filter((it) => Number(it.levels[level]) > 0).map((it) => ({ ...it, orders: Number(it.levels[level]), first: it.first[level] }));
     return [level, { orders: outcomes.reduce((sum, it) => sum + it.orders, 0), outcomes }]; })); }
 class StoryPage { constructor(sheet, objects, panels) { Object.assign(this, { sheet, panels, models: new Map() }); this.text = sheet.text ?? "";
-    const log = objects.find((it) => it.verdict !== undefined && it.kind === undefined && it.levels === undefined);
-    this.plays = log ? [playOfLog(this.text, log)] : objects.filter((it) => it.kind === "play");
+    const log = objects.find((it) => it.kind === "verdict"); this.plays = log ? [playOfLog(this.text, log)] : objects.filter((it) => it.kind === "play");
     this.outcomes = outcomesOf(objects.filter((it) => it.kind === undefined && it.levels !== undefined)); this.isLog = Boolean(log); [this.own] = this.plays;
     this.place = { level: log ? "serializable" : levelOf(this.own), step: 0, mode: "", asks: false }; this.order = this.own.order ?? [];
     this.player = new Player({ go: (change, isEntry, options) => this.go(change, isEntry, options) });
@@ -1472,7 +1495,9 @@ function cardOf(number, step, id, at, marked, again) {
   const [one, two, three] = [h / 2 + 0.34 * u, h / 2 - (tight ? 0.12 : 0.14) * u, h / 2 + (tight ? 0.8 : 0.9) * u];
   const lines = id === "detect" ? line(isCovered ? "?" : fitting(detailOf(step), inner, size, 600), one, "op") : !bottom ? line(top, one, "op") : line(top, two, "op") + line(bottom, three, "detail");
   return [`<g class="cell ${kind}${isHere ? " here" : ""}${number > here ? " later" : ""}" data-at="${number}" role="button"${isHere ? ' tabindex="0"' : ""} aria-label="${esc(said)}"${isHere ? ' aria-current="step"' : ""}><rect x="${f1(x(number) + 0.1 * u)}" y="${f1(cellY(id))}" width="${f1(cell - 0.2 * u)}" height="${f1(h)}" rx="${f1(0.3 * u)}"/>${lines}</g>`];
-}
+"##;
+
+pub(crate) const SCRIPT_THIRD: &str = r#"}
 
 /** In the explorer: the moves that may come next, each in its lane. */
 function nextMoves({ u, x, cell, laneY, cellY, cellH, tight }) {
@@ -1492,9 +1517,7 @@ function nextMoves({ u, x, cell, laneY, cellY, cellH, tight }) {
 
 /** The head of a lane: name, its short form where it has one, level, and those of its fields that say something. */
 function laneHead(id, y, { laneH: h, gutter, u, isPhone, tight }) {
-"##;
-
-pub(crate) const SCRIPT_THIRD: &str = r#"  const it = run.txn(id, here);
+  const it = run.txn(id, here);
   const short = shortOf(id);
   const tokenW = short === it.name || isPhone ? 0 : widthOf(short, 0.9 * u, 700) + 0.6 * u;
   const room = gutter - tokenW - 0.8 * u;
@@ -2497,7 +2520,9 @@ function showTree() {
   const crumbs = order.map((name, index) => {
     const nth = order.slice(0, index).filter((it) => it === name).length;
     return `<button type="button" data-crumb="${index + 1}" class="${index + 1 <= place ? "" : "ahead"}"${index + 1 === place ? ' aria-current="true"' : ""}>${tagName(name)} ${esc(tree.moves[tree.names.indexOf(name)][nth])}</button>`;
-  });
+"#;
+
+pub(crate) const SCRIPT_FOURTH: &str = r##"  });
   $("path").hidden = false;
   $("path").innerHTML = `<button type="button" data-crumb="0"${place === 0 ? ' aria-current="true"' : ""}>start</button>${crumbs.map((it) => `<span aria-hidden="true">\u203a</span>${it}`).join("")}<span class="space"></span><button type="button" data-do="undo"${place === 0 ? " disabled" : ""} title="Backspace">\u21b6 undo</button>`;
   const current = $("path").querySelector('[aria-current="true"]');
@@ -2517,9 +2542,7 @@ function showTree() {
     const joins = isJoin(tree, node.index, next);
     const idle = (joins ? hasEnded(tree.names[who]) : it.steps.length === 0) ? ' <span class="soft">(has aborted)</span>' : "";
     return `<button type="button" class="choice${isTaken ? " taken" : ""}" data-next="${next}"${joins ? ` title="${esc(joinSaid(next))}"` : ""}><kbd>${who + 1}</kbd> <span>${joins ? `${JOINS} ` : ""}${(isCrowd ? shortTag : tagName)(tree.names[who])} <b>${esc(move)}</b>${idle}</span>${outcomeBar(it.counts)}<span class="count">${isSecret ? "" : countsSaid(it.counts, room)}</span></button>`;
-"#;
-
-pub(crate) const SCRIPT_FOURTH: &str = r##"  }).join("");
+  }).join("");
   const found = whole && isAt ? `<p class="whose">This order is complete.</p><p class="final">${outcomeOf(data.outcomes[node.outcome])}</p><p>All together: <b>${esc(verdictOf(data.outcomes[node.outcome]))}</b>. ${reachSaid(node)}</p>` : "";
   const inside = isAt ? "" : `<p class="whose">In the middle of a move</p><p>\u2192 goes on with it.</p>`;
   $("because").innerHTML = `<div class="moves">${found || inside || `<p class="whose">Who moves next?</p><div class="pick${tree.isMerged ? " merged" : ""}${isCrowd ? " crowd" : ""}" style="--n:${isCrowd ? Math.ceil(ways / 2) : Math.min(ways, 3)}">${choices}</div>`}</div>`;

@@ -1,11 +1,11 @@
-use Rattle.std.proofs.Common.{◌≡◌, ◌+◌, ◌++◌, ◌∷◌, [], ℕ, List, Some, Option, ap, ◌∙◌, sym, subst, length, rules}
+use Rattle.std.proofs.Common.{◌≡◌, ◌+◌, ◌++◌, ◌∷◌, [], ℕ, List, Some, ap, ◌∙◌, sym, subst, length, rules}
 use Rattle.std.specs.Prelude.{slice_get}
 use Rattle.std.proofs.lemmas.List.{length_push}
 use Rattle.hek_history.specs.declared.history.Transaction.{Transaction}
 use Rattle.hek_history.proofs.Fronts.{element_at}
 use Rattle.hek_levels.specs.declared.log.Transaction.{Transaction as TheTransaction}
 use Rattle.hek_levels.specs.declared.log.Turn.{Turn}
-use Rattle.hek_history_levels.specs.Steps.{turn_at, IsSeen}
+use Rattle.hek_history_levels.specs.Steps.{turns_at, IsSeen}
 use Rattle.hek_history_levels.proofs.Pushed.{one_more}
 use Rattle.hek_history_levels.proofs.step.all_seen.Goals as goal
 
@@ -14,10 +14,10 @@ loop-t-preserved c =
     let xs = c.args.history.now.transactions.items in
     let t = c.loop-t.t in
     let y = c.in_ok-seen.field-0 in
-    let P : ℕ → Transaction → TheTransaction → Type 0 = λ (k : ℕ) (a : Transaction) (b : TheTransaction). IsSeen c.args.keys.now (turn_at c.args.turns.now k) a b in
+    let P : ℕ → Transaction → TheTransaction → Type 0 = λ (k : ℕ) (a : Transaction) (b : TheTransaction). IsSeen (turns_at c.args.turns.now k) a b in
     let pushed : c.push.new.self.items ≡ c.loop-t.found.items ++ y ∷ [] = search rules in
     let there : slice_get xs t ≡ Some c.index.result.now = element_at xs t c.index.result.now (search rules) c.index.ensures in
-    let here : P t c.index.result.now y = subst (λ (turn : Option Turn). IsSeen c.args.keys.now turn c.index.result.now y) c.turn_at-turn.ensures c.in_ok-seen.ensures in
+    let here : P t c.index.result.now y = subst (λ (turns : List Turn). IsSeen turns c.index.result.now y) c.turns_at-own.ensures c.in_ok-seen.ensures in
     record {
       count = ap length pushed ∙ length_push c.loop-t.found.items y ∙ ap (λ (n : ℕ). n + 1) c.loop-t.invariant.count;
       seen = record {

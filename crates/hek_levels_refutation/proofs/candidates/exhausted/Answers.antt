@@ -4,6 +4,6 @@ use Rattle.hek_levels_refutation.proofs.candidates.exhausted.Goals as goal
 
 pub returns : goal.returns
 returns c e x hold =
-    let left = c.in-Some.ensures c.args.context.now.rules c.args.context.now.log.now e hold in
-    none_left c.args.context.now.rules c.args.context.now.log.now e x c.in-Some.left.reader c.in-Some.left.place c.in-Some-read_at.read c.in-Some.left.number left.0 (sym c.in-Some-read_at.ensures) left.1
-    (c.if-not-is_none_from.ensures refl)
+    let left = c.in-Some.ensures c.args.context.now.asked.now c.args.context.now.log.now e hold in
+    none_left c.args.context.now.asked.now c.args.context.now.log.now e x c.in-Some.left.reader c.in-Some.left.place c.in-Some-read_at.read c.in-Some.left.number c.in-Some.left.end left.0
+    (sym c.in-Some-read_at.ensures) left.1 (left.2 c.in-Some-read_at.read (sym c.in-Some-read_at.ensures)) (c.if-not-is_none_between.ensures refl)

@@ -4,8 +4,9 @@ use Rattle.hek_levels_refutation.proofs.candidates.skip.Goals as goal
 
 pub returns : goal.returns
 returns c e x hold =
-    let left = c.in-Some.ensures c.args.context.now.rules c.args.context.now.log.now e hold in (
+    let left = c.in-Some.ensures c.args.context.now.asked.now c.args.context.now.log.now e hold in (
       left.0,
-      skipped c.args.context.now.rules c.args.context.now.log.now e x c.in-Some.left.reader c.in-Some.left.place c.in-Some-read_at.read c.in-Some.left.number c.args.number left.0 (sym c.in-Some-read_at.ensures) left.1
+      skipped c.args.context.now.asked.now c.args.context.now.log.now e x c.in-Some.left.reader c.in-Some.left.place c.in-Some-read_at.read c.in-Some.left.number c.args.number left.0 (sym c.in-Some-read_at.ensures) left.1
           (c.if-not-is_none_between.ensures refl),
+      left.2,
     )

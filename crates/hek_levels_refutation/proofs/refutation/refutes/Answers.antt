@@ -4,4 +4,4 @@ use Rattle.hek_levels_refutation.proofs.Boxes.{IsSound-none}
 use Rattle.hek_levels_refutation.proofs.refutation.refutes.Goals as goal
 
 pub loop-n-init : goal.loop-n-init
-loop-n-init c = subst (IsSound c.args.rules c.args.log.now) (sym c.new-shown.ensures.items) (IsSound-none c.args.rules c.args.log.now)
+loop-n-init c = subst (IsSound c.args.asked.now c.args.log.now) (sym c.new-shown.ensures.items) (IsSound-none c.args.asked.now c.args.log.now)

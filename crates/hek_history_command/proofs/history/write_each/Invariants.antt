@@ -1,6 +1,0 @@
-use Rattle.hek_history_command.specs.Told.{Grows}
-use Rattle.hek_history_command.proofs.history.write_each.Given as goal
-
--- something is written so far
-abbrev pub invariant-loop-cause : goal.invariant-loop-cause
-invariant-loop-cause g l = Grows (g.W.Write.contents l.fn.out) (g.W.Write.contents l.out)

@@ -1,9 +1,0 @@
-use Rattle.std.proofs.Common.{◌≡◌, ℕ, drop}
-use Rattle.std.specs.HashMap.{get}
-use Rattle.std.specs.Prelude.{◌==◌}
-use Rattle.hek_rules.specs.Listing.{value_of}
-use Rattle.hek_levels.specs.Uncommitted.{either}
-use Rattle.hek_levels.proofs.uncommitted.by_key.Given as goal
-
-abbrev pub invariant-loop-row : goal.invariant-loop-row
-invariant-loop-row l = (k : ℕ) → either (get ◌==◌ l.map k) (value_of (drop l.row-index l.rows) k) ≡ value_of l.rows k
