@@ -43,8 +43,8 @@ _hek() {
     "check --explain=") words="always never" ;;
     "check --level" | "check --level=") words="serializable repeatable snapshot" ;;
     "history --explain=") words="always never" ;;
-    "history --level" | "history --level=") words="serializable snapshot parallel-snapshot causal read-atomic monotonic-view read-committed read-uncommitted monotonic-reads read-your-writes monotonic-writes writes-follow-reads guarantees repeatable" ;;
-    "history --order" | "history --order=") words="any versions commit real" ;;
+    "history --level" | "history --level=") words="serializable repeatable snapshot parallel-snapshot prefix causal read-atomic monotonic-view read-committed read-uncommitted own monotonic-reads read-your-writes monotonic-writes writes-follow-reads guarantees" ;;
+    "history --order" | "history --order=") words="any versions real versions,real" ;;
     "history --effort" | "history --effort=") return ;;
     "history --all=") words="each counts" ;;
     "history --order-out" | "history --order-out=") compopt -o default; return ;;
@@ -74,7 +74,7 @@ _hek() {
     page) words="--text --image --explain --level --auto --output --from --to --title --lesson --previous --next --orders --levels --split --grain --limit --machine --json --help" files=yes ;;
     permute) words="--text --image --explain --auto --level --split --grain --limit --part --jobs --each --order --levels --find --stats --add --json --help" files=yes ;;
     check) words="--text --image --explain --auto --level --why --summary --all --json --help" files=yes ;;
-    history) words="--explain --level --levels --sessions --guarantees --order --effort --all --order-out --json --help" files=yes ;;
+    history) words="--explain --level --levels --sessions --no-sessions --guarantees --order --effort --all --order-out --json --help" files=yes ;;
     drive) words="--text --image --explain --color --why --changes --state --ends --auto --level --json --help" files=yes ;;
     threads) words="--text --image --explain --turns --repeat --seed --auto --level --json --help" files=yes ;;
     word) words="--changes --clock --txns --readers --json --help" ;;
