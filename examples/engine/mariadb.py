@@ -158,10 +158,12 @@ class Client:
     """What a thread runs transactions with, by one connection after another."""
 
     def __init__(self, server, level, name):
-        self.server, self.level, self.name = server, level, name
+        self.server, self.level, self.name, self.connections = server, level, name, 0
         self.connect()
 
     def connect(self):
+        # What was cut off may commit after the next transaction has begun, so each connection is a session of its own.
+        self.connections += 1
         try:
             self.session = Session(self.server, DATABASE)
             self.session.count(f"set session innodb_snapshot_isolation = {int(self.level == 'snapshot')}")
@@ -187,7 +189,7 @@ class Client:
         return self.place(f"binlog_gtid_pos('{status['Binlog_snapshot_file']}', {status['Binlog_snapshot_position']})")
 
     def transaction(self, recorder, number, operations):
-        with recorder.transaction(number, LEVELS[self.level], self.name) as made:
+        with recorder.transaction(number, LEVELS[self.level], f"{self.name}, connection {self.connections}") as made:
             try:
                 made.begin = made.end = 2 * self.begin() + 1
                 for operation in operations:

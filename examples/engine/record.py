@@ -198,7 +198,8 @@ class Recorder:
     With `late`, all lines are written by `close`: until then `transactions` has those that have ended, whose `begin` and `end` may
     be set, for an engine that tells its order of commits only afterwards.
 
-    A transaction of a `session`, as a connection or a client is one, comes after those of it whose lines stand before its own.
+    A transaction of a `session`, as a connection or a client is one, comes after those of it whose lines stand before its own. What was
+    lost may commit later than the next one begins, so a client that has lost its connection goes on as another session.
     """
 
     def __init__(

@@ -98,15 +98,7 @@ fn own_edge(t: usize, fault: OwnFault) -> CycleEdge {
 fn name_of_fault(fault: OwnFault) -> Anomaly {
     match fault {
         OwnFault::Contradicted { .. } => Anomaly::OwnWriteLost,
-        OwnFault::Disagree {
-            before,
-            after,
-            scanned,
-            ..
-        } => {
-            let is_absent = matches!(before, Need::Absent) || matches!(after, Need::Absent);
-            name_within(scanned, is_absent)
-        }
+        OwnFault::Disagree { missed, .. } => name_within(missed),
         OwnFault::Unordered { .. } | OwnFault::Outside { .. } => Anomaly::OwnAnswers,
     }
 }
@@ -171,7 +163,7 @@ impl Evident<'_> {
     fn tell_unread(&self, t: usize, causes: &mut Vec<Cause>) -> Result<(), NoMemory> {
         for place in self.problem.first_reading(t)..self.problem.end_reading(t) {
             let reading = self.problem.reading(place);
-            if self.choice_of(reading, false) == Choice::None {
+            if self.choice_of(reading) == Choice::None {
                 let cause = unread_cause(self.alloc, self.problem.log, t, self.read_of(reading))?;
                 causes.push(cause)?;
             }
@@ -216,7 +208,7 @@ impl Evident<'_> {
                         key,
                         before: one.need,
                         after: next.need,
-                        scanned: self.is_scanned(one) || self.is_scanned(next),
+                        missed: self.is_missed(one) || self.is_missed(next),
                     };
                     return self.tell_fault(t, fault, Some(key), causes);
                 }

@@ -98,13 +98,15 @@ pub struct Answer {
     pub key: Option<u64>,
 }
 
-/// A read from which steps start, with all who may have written what it found.
+/// A read from which steps start, with who may have written what it found: of those that are known to have taken place some.
 #[derive(Drop)]
 pub struct Told {
     pub reader: usize,
     pub key: u64,
     pub need: Need,
     pub writers: Vec<Writer>,
+    /// Whether others may have written it too.
+    pub others: bool,
 }
 
 /// What keeps a log from a level, with its cycle. Where a single transaction is at fault it is both ends of the only edge. Where steps
@@ -113,7 +115,7 @@ pub struct Told {
 pub struct Cause {
     pub anomaly: Anomaly,
     pub cycle: Vec<CycleEdge>,
-    /// Of each transaction of the cycle of unknown status a read that only it can have written, if no edge of the cycle is that.
+    /// Of each transaction of unknown status that is named a read that only it can have written, if no edge of the cycle is that.
     pub shown: Vec<CycleEdge>,
     /// How many steps show it, if no cycle does, and the reads from which they start.
     pub steps: usize,

@@ -13,7 +13,7 @@ use std::alloc::Global;
 /// How many links of one transaction before another are paired with those back.
 const PAIRED: usize = 6;
 
-/// How many links are gone along in one round, in which no longer cycle is looked for once a cycle was found.
+/// How many links are gone along in one search, in which no longer cycle is looked for once a cycle was found.
 const GONE_ALONG: usize = 5_000_000;
 
 /// Along which links a cycle is looked for.
@@ -138,6 +138,7 @@ impl Cycles {
         self.find_longer(evident, Along::Before)?;
         let rules = problem.rules(0);
         if self.rounds.is_empty() && rules.causes && matches!(rules.own, Own::All) {
+            self.gone = 0;
             return self.find_seen(evident);
         }
         Ok(())
@@ -310,22 +311,39 @@ impl Cycles {
         Ok(())
     }
 
-    /// Finds a cycle through each read that was written over, along links by which one sees another.
+    /// Finds a cycle through each read that was written over, along links by which one sees another: first where the log has the one that
+    /// wrote over it before the reader, since most logs have their transactions about in order.
     fn find_seen(&mut self, evident: &Evident) -> Result<(), NoMemory> {
         let mut least = usize::MAX;
-        for place in 0..self.links.all.len() {
-            let link = self.link(place);
-            if link.plain {
-                let quest = Quest {
-                    start: link.second,
-                    goal: link.first,
-                    along: Along::Seen,
-                    given: Some(place),
-                };
-                least = self.find_by(evident, quest, least)?;
+        for is_turned in [true, false] {
+            for place in 0..self.links.all.len() {
+                let (reader, writer) = self.link(place).ends();
+                if (writer < reader) == is_turned {
+                    least = self.find_seen_over(evident, place, least)?;
+                }
             }
         }
         Ok(())
+    }
+
+    /// Finds a cycle through a link, if it is a read that was written over, along links by which one sees another.
+    fn find_seen_over(
+        &mut self,
+        evident: &Evident,
+        place: usize,
+        least: usize,
+    ) -> Result<usize, NoMemory> {
+        let link = self.link(place);
+        if !link.plain {
+            return Ok(least);
+        }
+        let quest = Quest {
+            start: link.second,
+            goal: link.first,
+            along: Along::Seen,
+            given: Some(place),
+        };
+        self.find_by(evident, quest, least)
     }
 
     /// Notes where the links of each transaction begin.

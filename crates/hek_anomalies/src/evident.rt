@@ -1,7 +1,7 @@
 //! What answers show by themselves: the reads that have one source, and who takes place.
 use crate::cause::Answer;
 use crate::lanes::Lanes;
-use crate::links::turn_between;
+use crate::links::{NONE, turn_between};
 use hek_history::History;
 use hek_levels::{Need, Writer, misses, scans_of};
 use hek_levels_search::{Problem, Reading, add, at, put};
@@ -27,6 +27,8 @@ pub(crate) struct Evident<'a> {
     /// Who takes place: those that are known to have committed, and of the others those that alone can have written what one read
     /// that takes place.
     present: Vec<bool>,
+    /// Of each of the others the reading that shows it.
+    shown_by: Vec<usize>,
 }
 
 impl<'a> Evident<'a> {
@@ -43,17 +45,20 @@ impl<'a> Evident<'a> {
             history,
             sources: Vec::new(alloc),
             present: Vec::new(alloc),
+            shown_by: Vec::new(alloc),
         }
     }
 }
 
 impl Evident<'_> {
-    /// Finds who takes place, and the only source of each reading of theirs: among all who may take place, or among those who do.
-    pub(crate) fn fill(&mut self, leaves_out: bool) -> Result<(), NoMemory> {
+    /// Finds who takes place, and the only source of each reading of theirs among all who may take place.
+    pub(crate) fn fill(&mut self) -> Result<(), NoMemory> {
         self.present.clear();
+        self.shown_by.clear();
         for t in 0..self.problem.transactions() {
             let present = self.problem.is_committed(t) && self.problem.is_possible(t);
             add(&mut self.present, present)?;
+            add(&mut self.shown_by, NONE)?;
         }
         for _ in 0..self.problem.transactions() {
             if !self.find_present() {
@@ -62,7 +67,7 @@ impl Evident<'_> {
         }
         self.sources.clear();
         for place in 0..self.problem.readings.len() {
-            let source = self.sole_source(place, leaves_out);
+            let source = self.sole_source(place);
             add(&mut self.sources, source)?;
         }
         Ok(())
@@ -72,9 +77,10 @@ impl Evident<'_> {
     fn find_present(&mut self) -> bool {
         let mut found = false;
         for place in 0..self.problem.readings.len() {
-            if let Some(Writer::Transaction(t)) = self.sole_source(place, false) {
+            if let Some(Writer::Transaction(t)) = self.sole_source(place) {
                 if !self.is_present(t) {
                     put(&mut self.present, t, true);
+                    put(&mut self.shown_by, t, place);
                     found = true;
                 }
             }
@@ -86,11 +92,16 @@ impl Evident<'_> {
         at(self.present.as_slice(), t, false)
     }
 
-    /// Who may have written what a reading found, of all or of those who take place. Of several only those count whose turn isn't after
-    /// the reader's.
-    pub(crate) fn choice_of(&self, reading: Reading, leaves_out: bool) -> Choice {
-        match self.choice_among(reading, leaves_out, false) {
-            Choice::Several => match self.choice_among(reading, leaves_out, true) {
+    /// The reading that shows that a transaction of unknown status takes place, if one does.
+    pub(crate) fn shown_by(&self, t: usize) -> Option<usize> {
+        let place = at(self.shown_by.as_slice(), t, NONE);
+        (place != NONE).then_some(place)
+    }
+
+    /// Who may have written what a reading found. Of several only those count whose turn isn't after the reader's.
+    pub(crate) fn choice_of(&self, reading: Reading) -> Choice {
+        match self.choice_among(reading, false) {
+            Choice::Several => match self.choice_among(reading, true) {
                 Choice::None => Choice::Several,
                 choice => choice,
             },
@@ -99,7 +110,7 @@ impl Evident<'_> {
     }
 
     /// Who may have written what a reading found, without those whose turns are after the reader's if that is wanted.
-    fn choice_among(&self, reading: Reading, leaves_out: bool, by_turns: bool) -> Choice {
+    fn choice_among(&self, reading: Reading, by_turns: bool) -> Choice {
         let candidates = self.problem.candidates(reading);
         let mut choice = if candidates.opening {
             Choice::One(Writer::Opening)
@@ -110,8 +121,8 @@ impl Evident<'_> {
             let Some(t) = self.problem.writer_of(row) else {
                 continue;
             };
-            let counts = t != reading.reader && (!leaves_out || self.is_present(t));
-            if counts && !(by_turns && turn_between(self.problem, reading.reader, t).is_some()) {
+            let is_later = by_turns && turn_between(self.problem, reading.reader, t).is_some();
+            if t != reading.reader && !is_later {
                 if choice != Choice::None {
                     return Choice::Several;
                 }
@@ -122,12 +133,12 @@ impl Evident<'_> {
     }
 
     /// The only source of a reading of one that takes place.
-    fn sole_source(&self, place: usize, leaves_out: bool) -> Option<Writer> {
+    fn sole_source(&self, place: usize) -> Option<Writer> {
         let reading = self.problem.reading(place);
         if !self.is_present(reading.reader) {
             return None;
         }
-        match self.choice_of(reading, leaves_out) {
+        match self.choice_of(reading) {
             Choice::One(writer) => Some(writer),
             Choice::None | Choice::Several => None,
         }
@@ -160,6 +171,11 @@ impl Evident<'_> {
             }
         }
         false
+    }
+
+    /// Whether a scan shows by a reading that its key is absent.
+    pub(crate) fn is_missed(&self, reading: Reading) -> bool {
+        matches!(reading.need, Need::Absent) && self.is_scanned(reading)
     }
 
     /// The answer of a reading.

@@ -11,12 +11,19 @@ use hek_levels_search::{Problem, at, part};
 struct Kinds {
     reads: usize,
     overwritten: usize,
+    /// Those of them whose reader writes the key too, where of two writers of a key one sees the other.
+    rivals: usize,
     /// Versions that follow from what one transaction saw of both.
     seen: usize,
     sessions: usize,
     real: usize,
     /// Reads that were written over in which a scan shows that a key is absent.
     missed: usize,
+}
+
+/// Whether an edge is by a scan that shows that a key is absent.
+fn is_missed(edge: CycleEdge) -> bool {
+    edge.scanned && is_of_absence(edge)
 }
 
 /// Whether an edge is by an answer that a key is absent.
@@ -29,8 +36,7 @@ fn count(number: &mut usize) {
     *number = number.saturating_add(1);
 }
 
-/// Whether the reader of a value that was written over writes the key too, where of two writers of a key one sees the other: then the edge
-/// is one of versions.
+/// Whether the reader of a value that was written over writes the key too, where of two writers of a key one sees the other.
 fn is_of_writers(problem: &Problem, edge: CycleEdge) -> bool {
     let (Writer::Transaction(t), Some(key)) = (edge.first, edge.key) else {
         return false;
@@ -45,10 +51,10 @@ impl Kinds {
     fn add(&mut self, problem: &Problem, edge: CycleEdge) {
         match edge.kind {
             EdgeKind::Read => count(&mut self.reads),
-            EdgeKind::Overwritten if is_of_writers(problem, edge) => {}
+            EdgeKind::Overwritten if is_of_writers(problem, edge) => count(&mut self.rivals),
             EdgeKind::Overwritten => {
                 count(&mut self.overwritten);
-                if edge.scanned && is_of_absence(edge) {
+                if is_missed(edge) {
                     count(&mut self.missed);
                 }
             }
@@ -167,14 +173,17 @@ const BY_SESSION: [Anomaly; 2] = [Anomaly::AgainstSession, Anomaly::SessionRead]
 /// The name of a cycle.
 pub(crate) fn name_of(evident: &Evident, cycle: &[CycleEdge]) -> Anomaly {
     let kinds = kinds_of(evident.problem, cycle);
+    let over = kinds.overwritten.saturating_add(kinds.rivals);
     if let Some(name) = name_of_rivals(evident, cycle) {
         name
     } else if kinds.real > 0 {
-        at(&BY_REAL_TIME, kinds.overwritten, Anomaly::RealTimeSkew)
+        at(&BY_REAL_TIME, over, Anomaly::RealTimeSkew)
     } else if kinds.sessions > 0 {
-        at(&BY_SESSION, kinds.overwritten, Anomaly::SessionSkew)
+        at(&BY_SESSION, over, Anomaly::SessionSkew)
     } else if kinds.overwritten > 0 {
         name_of_reads(evident, cycle, kinds)
+    } else if kinds.rivals > 0 {
+        name_of_writers(cycle, kinds)
     } else if kinds.seen > 0 {
         Anomaly::BothOrders
     } else if kinds.reads == 0 {
@@ -199,12 +208,19 @@ fn name_of_rivals(evident: &Evident, cycle: &[CycleEdge]) -> Option<Anomaly> {
     Some(Anomaly::LostUpdate)
 }
 
+/// The name of a cycle in which each read that was written over is one of a key that its reader writes too.
+fn name_of_writers(cycle: &[CycleEdge], kinds: Kinds) -> Anomaly {
+    match (cycle.len(), kinds.rivals) {
+        (2, _) => Anomaly::LostUpdate,
+        (_, 1) => Anomaly::SingleAntiDependency,
+        _ => Anomaly::AntiDependencyCycle,
+    }
+}
+
 /// The name of a cycle in which something that was read is written over, and that isn't one of rivals.
 fn name_of_reads(evident: &Evident, cycle: &[CycleEdge], kinds: Kinds) -> Anomaly {
     if kinds.reads == 1 && one_key(cycle).is_some() {
-        let is_scanned = cycle.iter().any(|edge| edge.scanned);
-        let is_absent = cycle.iter().any(|edge| is_of_absence(*edge));
-        return name_within(is_scanned, is_absent);
+        return name_within(cycle.iter().any(|edge| is_missed(*edge)));
     }
     if kinds.missed > 0 {
         return Anomaly::Phantom;
@@ -229,9 +245,9 @@ fn name_of_reads(evident: &Evident, cycle: &[CycleEdge], kinds: Kinds) -> Anomal
     }
 }
 
-/// The name of two answers of one transaction about one key.
-pub(crate) fn name_within(is_scanned: bool, is_absent: bool) -> Anomaly {
-    if is_scanned && is_absent {
+/// The name of two answers of one transaction about one key, of which a scan may show that it is absent.
+pub(crate) fn name_within(is_missed: bool) -> Anomaly {
+    if is_missed {
         Anomaly::PhantomWithin
     } else {
         Anomaly::NonRepeatableRead

@@ -23,8 +23,8 @@ pub enum OwnFault {
         key: u64,
         before: Need,
         after: Need,
-        /// Whether one of them is a scan.
-        scanned: bool,
+        /// Whether one of them is a scan that shows that the key is absent.
+        missed: bool,
     },
     /// The pairs of the scan are not by key.
     Unordered {

@@ -3,6 +3,7 @@
 use crate::alone::cause_of;
 use crate::anomaly::Anomaly;
 use crate::cause::{Answer, Cause, Told};
+use crate::evident::Evident;
 use hek_levels::{Log, Place, Read, Writer, is_possible, offers, read_at};
 use hek_levels_refutation::Step;
 use hek_levels_search::{Absence, add};
@@ -52,45 +53,52 @@ fn starts_in(alloc: Global, log: &Log, steps: &[Step]) -> Result<Vec<(usize, Rea
     Ok(starts)
 }
 
-/// All who may have written what a read found, up to some.
+/// Who may have written what a read found, up to some: of those that are known to have taken place. Answers whether there are others.
 fn writers_of(
-    alloc: Global,
-    log: &Log,
+    evident: &Evident,
     reader: usize,
     read: Read,
-) -> Result<Vec<Writer>, NoMemory> {
-    let mut writers = Vec::new(alloc);
+    writers: &mut Vec<Writer>,
+) -> Result<bool, NoMemory> {
+    let log = evident.problem.log;
+    let mut others = false;
     if offers(log, Writer::Opening, read) {
-        add(&mut writers, Writer::Opening)?;
+        add(writers, Writer::Opening)?;
     }
     for t in 0..log.transactions.len() {
-        if writers.len() > MOST_WRITERS {
-            return Ok(writers);
-        }
         let writer = Writer::Transaction(t);
-        if t != reader && is_possible(log, t) && offers(log, writer, read) {
-            add(&mut writers, writer)?;
+        if t == reader || !is_possible(log, t) || !offers(log, writer, read) {
+            continue;
+        }
+        if writers.len() >= MOST_WRITERS || !evident.is_present(t) {
+            others = true;
+        } else {
+            add(writers, writer)?;
         }
     }
-    Ok(writers)
+    Ok(others)
 }
 
 /// What steps show.
-pub(crate) fn cause_of_steps(alloc: Global, log: &Log, steps: &[Step]) -> Result<Cause, NoMemory> {
+pub(crate) fn cause_of_steps(evident: &Evident, steps: &[Step]) -> Result<Cause, NoMemory> {
+    let alloc = evident.alloc;
     let mut cause = cause_of(alloc, Anomaly::NoOrder, Vec::new(alloc));
     cause.steps = steps.len();
-    for (reader, read) in starts_in(alloc, log, steps)?.iter() {
+    for (reader, read) in starts_in(alloc, evident.problem.log, steps)?.iter() {
         let answer = Answer {
             transaction: *reader,
             key: Some(read.key),
         };
         add(&mut cause.answers, answer)?;
-        if cause.told.len() < MOST_TOLD {
+        if cause.told.len() < MOST_TOLD && evident.is_present(*reader) {
+            let mut writers = Vec::new(alloc);
+            let others = writers_of(evident, *reader, *read, &mut writers)?;
             cause.told.push(Told {
                 reader: *reader,
                 key: read.key,
                 need: read.need,
-                writers: writers_of(alloc, log, *reader, *read)?,
+                writers,
+                others,
             })?;
         }
     }

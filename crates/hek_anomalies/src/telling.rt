@@ -1,6 +1,6 @@
 //! What is told of a log that fails: what its answers show, the lightest first, or else its steps.
 use crate::alone::unread_cause;
-use crate::cause::{Cause, CycleEdge, EdgeKind};
+use crate::cause::{Cause, CycleEdge, EdgeKind, Evidence};
 use crate::cycles::Cycles;
 use crate::evident::Evident;
 use crate::lanes::Lanes;
@@ -43,9 +43,13 @@ pub fn causes_at(alloc: Global, telling: Telling<'_>, all: bool) -> Result<Vec<C
     let mut listed = absences_in(alloc, telling.steps)?;
     list_few(telling.log, &mut listed)?;
     let problem = reduced(alloc, telling.log, telling.asked, listed.as_slice(), &[])?;
-    show_all(alloc, telling, &problem, all, &mut causes)?;
+    let mut evident = Evident::new(alloc, &problem, telling.lanes, telling.history);
+    evident.fill()?;
+    show_all(&mut evident, all, &mut causes)?;
     if causes.is_empty() {
-        causes.push(cause_of_steps(alloc, telling.log, telling.steps)?)?;
+        let mut cause = cause_of_steps(&evident, telling.steps)?;
+        evident.show_taken(&mut cause)?;
+        causes.push(cause)?;
     }
     Ok(causes)
 }
@@ -85,59 +89,88 @@ fn list_few(log: &Log, listed: &mut Vec<Absence>) -> Result<(), NoMemory> {
     Ok(())
 }
 
-/// Adds the anomalies that answers show: first where each may be of all who may have committed, then as if none had that no read needs.
-fn show_all<'a>(
-    alloc: Global,
-    telling: Telling<'a>,
-    problem: &'a Problem<'a>,
-    all: bool,
-    causes: &mut Vec<Cause>,
-) -> Result<(), NoMemory> {
-    for leaves_out in [false, true] {
-        let mut evident = Evident::new(alloc, problem, telling.lanes, telling.history);
-        evident.fill(leaves_out)?;
-        for disagree in [false, true] {
-            if causes.is_empty() {
-                evident.tell_alone(disagree, all, causes)?;
-            }
-        }
+/// Adds the anomalies that answers show: of single transactions, or else of cycles.
+fn show_all(evident: &mut Evident<'_>, all: bool, causes: &mut Vec<Cause>) -> Result<(), NoMemory> {
+    for disagree in [false, true] {
         if causes.is_empty() {
-            let mut cycles = Cycles::new(alloc);
-            cycles.tell(&mut evident, all, causes)?;
+            evident.tell_alone(disagree, all, causes)?;
         }
+    }
+    if causes.is_empty() {
+        let mut cycles = Cycles::new(evident.alloc);
+        cycles.tell(evident, all, causes)?;
     }
     Ok(())
 }
 
+/// Adds a transaction, if it isn't there.
+fn add_once(named: &mut Vec<usize>, writer: Writer) -> Result<(), NoMemory> {
+    match writer {
+        Writer::Transaction(t) if !named.contains(&t) => add(named, t),
+        Writer::Transaction(_) | Writer::Opening => Ok(()),
+    }
+}
+
+/// Whom a cause names.
+fn named_in(alloc: Global, cause: &Cause) -> Result<Vec<usize>, NoMemory> {
+    let mut named = Vec::new(alloc);
+    for edge in cause.cycle.iter() {
+        add_once(&mut named, edge.first)?;
+        if let Some(source) = edge.source {
+            add_once(&mut named, source)?;
+        }
+        if let Evidence::Seen(seen) = edge.evidence {
+            add_once(&mut named, Writer::Transaction(seen.reader))?;
+            add_once(&mut named, seen.writer)?;
+        }
+    }
+    for told in cause.told.iter() {
+        add_once(&mut named, Writer::Transaction(told.reader))?;
+        for writer in told.writers.iter() {
+            add_once(&mut named, *writer)?;
+        }
+    }
+    Ok(named)
+}
+
 impl Evident<'_> {
-    /// Adds, of each transaction of a cycle of unknown status that no edge says was read, a read that only it can have written.
+    /// Adds, of each transaction of unknown status that a cause names, the read that shows that it took place; and of its reader, if that
+    /// is one too.
     pub(crate) fn show_taken(&self, cause: &mut Cause) -> Result<(), NoMemory> {
-        for edge in cause.cycle.iter() {
-            let Writer::Transaction(t) = edge.first else {
+        let mut named = named_in(self.alloc, cause)?;
+        for n in 0..self.problem.transactions() {
+            let Some(t) = named.get(n).copied() else {
+                break;
+            };
+            let Some(place) = self.shown_by(t) else {
                 continue;
             };
-            if !self.problem.is_committed(t) && !matches!(edge.kind, EdgeKind::Read) {
-                if let Some(read) = self.read_from(t) {
-                    add(&mut cause.shown, read)?;
-                }
+            if self.is_read_in(cause, t) {
+                continue;
             }
+            let reading = self.problem.reading(place);
+            let scanned = self.is_scanned(reading);
+            let writer = Writer::Transaction(t);
+            let edge = CycleEdge::of_read(writer, reading.reader, self.read_of(reading), scanned);
+            add(&mut cause.shown, edge)?;
+            add_once(&mut named, Writer::Transaction(reading.reader))?;
         }
         Ok(())
     }
 
-    /// A read that only a transaction can have written.
-    fn read_from(&self, t: usize) -> Option<CycleEdge> {
-        for place in 0..self.readings() {
-            if self.source(place) == Some(Writer::Transaction(t)) {
-                let reading = self.problem.reading(place);
-                return Some(CycleEdge::of_read(
-                    Writer::Transaction(t),
-                    reading.reader,
-                    self.read_of(reading),
-                    self.is_scanned(reading),
-                ));
+    /// Whether an edge of a cause's cycle says that one who is known to have committed read what only a transaction can have written.
+    fn is_read_in(&self, cause: &Cause, t: usize) -> bool {
+        for edge in cause.cycle.iter() {
+            if let (EdgeKind::Read, Writer::Transaction(writer), Writer::Transaction(reader)) = (
+                edge.kind,
+                edge.first,
+                edge.second,
+            ) {
+                if writer == t && self.problem.is_committed(reader) {
+                    return true;
+                }
             }
         }
-        None
+        false
     }
 }

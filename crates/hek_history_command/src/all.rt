@@ -62,14 +62,17 @@ impl<O: Write, W: Write> Report<'_, O, W> {
                 Finding::Unknown(_) => return Ok(Rest::Unknown),
                 Finding::Fails(_) | Finding::Lost(_, _) => {}
             }
-            let causes = causes_of(&self.scene, level, &found, true)?;
+            let mut causes = causes_of(&self.scene, level, &found, true)?;
+            for cause in causes.iter_mut() {
+                self.numbers.restore(cause);
+            }
             for cause in causes.iter() {
                 if self.choice.extent != Extent::Counts {
                     let answer = self.anomaly_of(asked, level, cause, held, tally);
                     self.say(answer)?;
                 }
                 tally.count(cause.anomaly)?;
-                forget_cause(&mut self.scene, cause)?;
+                forget_cause(&mut self.scene, &mut self.numbers, cause)?;
             }
             self.scene.renew()?;
         }

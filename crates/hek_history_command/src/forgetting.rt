@@ -1,4 +1,5 @@
 //! Going on after an anomaly: the answers on which it rests are forgotten.
+use crate::numbers::Numbers;
 use hek_anomalies::{Answer, Cause};
 use hek_history::{Level, Operation, Scope, Transaction, covers, key_of};
 use hek_history_log::Log;
@@ -9,12 +10,26 @@ use hek_rules::NoMemory;
 use std::alloc::Global;
 use std::mem;
 
+/// Adds, for operations that were added, that they are a part of the one at a place.
+fn add_places(
+    places: &mut Vec<usize>,
+    operations: &[Operation],
+    place: usize,
+) -> Result<(), NoMemory> {
+    for _ in places.len()..operations.len() {
+        places.push(place)?;
+    }
+    Ok(())
+}
+
 /// Forgets what a transaction was answered: it becomes serializable, without times, and only writes. A history that has an
-/// explanation has one after this too.
-fn forget_answers(alloc: Global, transaction: &mut Transaction) -> Result<(), NoMemory> {
+/// explanation has one after this too. Answers of which operation each is a part that is left.
+fn forget_answers(alloc: Global, transaction: &mut Transaction) -> Result<Vec<usize>, NoMemory> {
     let mut operations = Vec::new(alloc);
-    for operation in transaction.operations.iter() {
+    let mut places = Vec::new(alloc);
+    for (place, operation) in transaction.operations.iter().enumerate() {
         add_write(&mut operations, operation)?;
+        add_places(&mut places, operations.as_slice(), place)?;
     }
     let _old = mem::replace(&mut transaction.operations, operations);
     transaction.level = Level::Serializable;
@@ -22,7 +37,7 @@ fn forget_answers(alloc: Global, transaction: &mut Transaction) -> Result<(), No
     transaction.end = None;
     transaction.invoked = None;
     transaction.answered = None;
-    Ok(())
+    Ok(places)
 }
 
 /// Adds what an operation does, without its answer. A delete is a write and a delete of what that wrote.
@@ -41,14 +56,20 @@ fn add_write(operations: &mut Vec<Operation>, operation: &Operation) -> Result<(
 }
 
 /// Forgets what a transaction was answered at a key. Its writes stay, and its answers at other keys; of a scan of a bucket those at the
-/// other keys that it listed.
-fn forget_answer(alloc: Global, transaction: &mut Transaction, key: u64) -> Result<(), NoMemory> {
+/// other keys that it listed. Answers of which operation each is a part that is left.
+fn forget_answer(
+    alloc: Global,
+    transaction: &mut Transaction,
+    key: u64,
+) -> Result<Vec<usize>, NoMemory> {
     let mut operations = Vec::new(alloc);
-    for operation in transaction.operations.iter() {
+    let mut places = Vec::new(alloc);
+    for (place, operation) in transaction.operations.iter().enumerate() {
         add_other(alloc, &mut operations, operation, key)?;
+        add_places(&mut places, operations.as_slice(), place)?;
     }
     let _old = mem::replace(&mut transaction.operations, operations);
-    Ok(())
+    Ok(places)
 }
 
 /// Adds an operation without its answer at a key.
@@ -130,9 +151,13 @@ fn add_parts(
 }
 
 /// Forgets the answers on which an anomaly rests; where it rests on none, the times, versions and session of a transaction of its cycle.
-pub(crate) fn forget_cause(scene: &mut Scene, cause: &Cause) -> Result<(), NoMemory> {
+pub(crate) fn forget_cause(
+    scene: &mut Scene,
+    numbers: &mut Numbers,
+    cause: &Cause,
+) -> Result<(), NoMemory> {
     for answer in cause.answers.iter() {
-        forget_one(scene.alloc, &mut scene.log, *answer)?;
+        forget_one(scene.alloc, &mut scene.log, numbers, *answer)?;
     }
     if cause.answers.is_empty() {
         for edge in cause.cycle.iter() {
@@ -146,12 +171,22 @@ pub(crate) fn forget_cause(scene: &mut Scene, cause: &Cause) -> Result<(), NoMem
 }
 
 /// Forgets an answer.
-fn forget_one(alloc: Global, log: &mut Log, answer: Answer) -> Result<(), NoMemory> {
-    let Some(transaction) = log.history.transactions.get_mut(answer.transaction) else {
+fn forget_one(
+    alloc: Global,
+    log: &mut Log,
+    numbers: &mut Numbers,
+    answer: Answer,
+) -> Result<(), NoMemory> {
+    let t = answer.transaction;
+    let Some(transaction) = log.history.transactions.get_mut(t) else {
         return Ok(());
     };
-    match answer.key {
-        Some(key) => forget_answer(alloc, transaction, key),
-        None => forget_answers(alloc, transaction),
+    let mut places = match answer.key {
+        Some(key) => forget_answer(alloc, transaction, key)?,
+        None => forget_answers(alloc, transaction)?,
+    };
+    for place in places.iter_mut() {
+        *place = numbers.in_log(t, *place);
     }
+    numbers.set(t, places)
 }

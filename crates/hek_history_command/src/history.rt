@@ -1,6 +1,7 @@
 //! The command `history`.
 use crate::choice::{Asked, Choice, effort_for};
 use crate::explained::Explained;
+use crate::numbers::Numbers;
 use crate::report::{Answer, Kind, Report};
 use crate::verdict::{NOT_KNOWN, worse};
 use hek_history::{History, Status};
@@ -81,6 +82,7 @@ fn answer<'a, W: Write, O: Write>(
         choice,
         order_out,
         out,
+        numbers: Numbers::new(alloc),
     };
     if !is_judged(&report.scene.log.history) {
         report.say(Answer::new(Kind::Verdict, None, "nothing to judge"))?;

@@ -11,6 +11,7 @@ mod forgetting;
 mod history;
 mod json;
 mod levels;
+mod numbers;
 mod order_lines;
 mod report;
 mod run_log;

@@ -2,6 +2,7 @@
 use crate::choice::{Choice, Extent};
 use crate::counted::{Rest, Tally};
 use crate::counts::Counts;
+use crate::numbers::Numbers;
 use crate::{json, text};
 use hek_anomalies::Cause;
 use hek_ladder::{Promise, Scene, Standing};
@@ -104,6 +105,7 @@ pub(crate) struct Report<'o, O, W> {
     pub choice: Choice,
     pub order_out: &'o mut Option<O>,
     pub out: &'o mut W,
+    pub numbers: Numbers,
 }
 
 impl<O: Write, W: Write> Report<'_, O, W> {

@@ -55,9 +55,6 @@ pub struct Teller<'a> {
     pub log: &'a Log,
 }
 
-/// How many writers of a read are named at most.
-const MOST_NAMED: usize = 6;
-
 impl<'a> Teller<'a> {
     /// The name of a writer.
     fn name(self, writer: Writer) -> Who<'a> {
@@ -100,14 +97,11 @@ impl Teller<'_> {
         let found = self.reading(Writer::Transaction(told.reader), told.key, told.need)?;
         let mut words = format!(in self.alloc; "{found}: of ")?;
         for (place, writer) in told.writers.iter().enumerate() {
-            if place >= MOST_NAMED {
-                words.push_str(" or others")?;
-                break;
-            }
             let name = self.name(*writer);
             let or = if place == 0 { "" } else { " or " };
             words = format!(in self.alloc; "{words}{or}{name}")?;
         }
+        words.push_str(others_of(told))?;
         Ok(words)
     }
 
@@ -287,6 +281,16 @@ impl Teller<'_> {
             put(writeln!(lines, "    {words}"))?;
         }
         Ok(())
+    }
+}
+
+/// What is said behind those who may have written what a read found.
+fn others_of(told: &Told) -> &'static str {
+    match (told.writers.is_empty(), told.others) {
+        (true, true) => "others",
+        (true, false) => "nobody",
+        (false, true) => " or others",
+        (false, false) => "",
     }
 }
 

@@ -1,4 +1,7 @@
 //! Whether a log satisfies one level or guarantee.
+ghost use Rattle.std.specs.Prelude.{IfOk};
+ghost use Rattle.hek_ladder.specs.Findings.{IsAsked, IsJudged, IsJudgedUncommitted, IsJudgedAt, IsFinding};
+
 use crate::promise::Promise;
 use crate::scene::Scene;
 use crate::twins::have_both;
@@ -20,28 +23,49 @@ pub enum Finding {
 }
 
 /// The rules that are asked for.
-fn rules_asked(scene: &Scene, promise: Promise) -> Result<Asked, NoMemory> {
+fn rules_asked(scene: &Scene, promise: Promise) -> Result<Asked, NoMemory>
+    ensures { IfOk result (λ asked. IsAsked scene.now promise asked) }
+{
     match promise {
         Promise::Own => scene.own_rules(),
         _ => Ok(Asked::All(promise.rules())),
     }
 }
 
-/// Asks whether a level or guarantee holds.
-pub fn ask(scene: &Scene, promise: Promise) -> Result<Finding, NoMemory> {
+/// Asks whether a level or guarantee holds. What is found is judged, and only then answered: it holds by an order that explains the log, or
+/// it fails, and then no order does. Nothing says that something is found.
+pub fn ask(scene: &Scene, promise: Promise) -> Result<Finding, NoMemory>
+    ensures { IfOk result (λ finding. IsFinding scene.now promise finding) }
+{
     let asked = rules_asked(scene, promise)?;
-    if promise != Promise::ReadUncommitted {
-        return found(scene, &asked, &scene.seen);
+    found_of(scene, promise, &asked)
+}
+
+/// What is found of a promise by its rules.
+fn found_of(scene: &Scene, promise: Promise, asked: &Asked) -> Result<Finding, NoMemory>
+    ensures { IfOk result (λ finding. IsJudgedAt promise asked.now scene.now.seen finding) }
+{
+    if promise == Promise::ReadUncommitted {
+        return found_uncommitted(scene, asked);
     }
+    found(scene, asked, &scene.seen)
+}
+
+/// What is found of read uncommitted.
+fn found_uncommitted(scene: &Scene, asked: &Asked) -> Result<Finding, NoMemory>
+    ensures { IfOk result (λ finding. IsJudgedUncommitted asked.now scene.now.seen finding) }
+{
     if let Some((t, place)) = find_lost(scene.alloc, &scene.seen)? {
         return Ok(Finding::Lost(t, place));
     }
     let turns = bare(scene.alloc, &scene.seen)?;
-    found(scene, &asked, &turns)
+    found(scene, asked, &turns)
 }
 
 /// What is found by rules.
-fn found(scene: &Scene, asked: &Asked, log: &Log) -> Result<Finding, NoMemory> {
+fn found(scene: &Scene, asked: &Asked, log: &Log) -> Result<Finding, NoMemory>
+    ensures { IfOk result (λ finding. IsJudged asked.now log.now finding) }
+{
     match judge(
         scene.alloc,
         asked,

@@ -1,4 +1,7 @@
 //! What a log can be asked for.
+ghost use Rattle.std.specs.Prelude.{◌≡◌};
+ghost use Rattle.hek_ladder.specs.Findings.{rules_at};
+
 use hek_levels::{Guarantees, Level, Rules};
 
 /// A level, or a guarantee of sessions.
@@ -24,6 +27,20 @@ pub enum Promise {
     /// All four, by one explanation.
     AllGuarantees,
 }
+
+const NO_GUARANTEES: Guarantees = Guarantees {
+    monotonic_reads: false,
+    read_your_writes: false,
+    monotonic_writes: false,
+    writes_follow_reads: false,
+};
+
+const ALL_GUARANTEES: Guarantees = Guarantees {
+    monotonic_reads: true,
+    read_your_writes: true,
+    monotonic_writes: true,
+    writes_follow_reads: true,
+};
 
 impl Promise {
     /// The levels, the strongest first: what holds at one holds at those after it, but that of the parallel snapshot and the prefix
@@ -111,7 +128,9 @@ impl Promise {
     }
 
     /// The rules of all transactions; those of read uncommitted are about turns alone, and the own ones are those of a log.
-    pub fn rules(self) -> Rules {
+    pub fn rules(self) -> Rules
+        ensures { result ≡ rules_at self }
+    {
         match self {
             Promise::Serializable | Promise::Repeatable | Promise::Own | Promise::ReadUncommitted =>
                 Level::Serializable.rules(),
@@ -122,18 +141,27 @@ impl Promise {
             Promise::ReadAtomic => Level::ReadAtomic.rules(),
             Promise::MonotonicView => Level::MonotonicView.rules(),
             Promise::ReadCommitted => Level::ReadCommitted.rules(),
-            _ => self.guarantees().rules(),
-        }
-    }
-
-    /// The guarantees that it is of.
-    fn guarantees(self) -> Guarantees {
-        let all = self == Promise::AllGuarantees;
-        Guarantees {
-            monotonic_reads: all || self == Promise::MonotonicReads,
-            read_your_writes: all || self == Promise::ReadYourWrites,
-            monotonic_writes: all || self == Promise::MonotonicWrites,
-            writes_follow_reads: all || self == Promise::WritesFollowReads,
+            Promise::MonotonicReads => Guarantees {
+                monotonic_reads: true,
+                ..NO_GUARANTEES
+            }
+            .rules(),
+            Promise::ReadYourWrites => Guarantees {
+                read_your_writes: true,
+                ..NO_GUARANTEES
+            }
+            .rules(),
+            Promise::MonotonicWrites => Guarantees {
+                monotonic_writes: true,
+                ..NO_GUARANTEES
+            }
+            .rules(),
+            Promise::WritesFollowReads => Guarantees {
+                writes_follow_reads: true,
+                ..NO_GUARANTEES
+            }
+            .rules(),
+            Promise::AllGuarantees => ALL_GUARANTEES.rules(),
         }
     }
 

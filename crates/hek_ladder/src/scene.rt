@@ -1,4 +1,8 @@
 //! A log as it was read, and as levels see it.
+ghost use Rattle.std.specs.Prelude.{◌≡◌, IfOk};
+ghost use Rattle.hek_ladder.specs.declared.promise.Promise.TheVariants.{Own as OwnLevels};
+ghost use Rattle.hek_ladder.specs.Findings.{own_rules_of, IsAsked};
+
 use crate::binding::Binding;
 use crate::guesses::guesses_of;
 use crate::turns::turns_of;
@@ -81,17 +85,21 @@ impl Scene {
     }
 
     /// The rules of each transaction at its own level.
-    pub(crate) fn own_rules(&self) -> Result<Asked, NoMemory> {
+    pub(crate) fn own_rules(&self) -> Result<Asked, NoMemory>
+        ensures { IfOk result (λ asked. IsAsked self.now OwnLevels asked) }
+    {
         let mut list = Vec::new(self.alloc);
         for transaction in &self.log.history.transactions {
-            list.push(rules_at(transaction.level))?;
+            list.push(own_rules_at(transaction.level))?;
         }
         Ok(Asked::Own(list))
     }
 }
 
 /// The rules of a level of a history.
-fn rules_at(level: HistoryLevel) -> Rules {
+fn own_rules_at(level: HistoryLevel) -> Rules
+    ensures { result ≡ own_rules_of level }
+{
     match level {
         HistoryLevel::Serializable | HistoryLevel::Repeatable => Level::Serializable.rules(),
         HistoryLevel::Snapshot => Level::Snapshot.rules(),

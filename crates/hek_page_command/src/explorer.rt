@@ -108,7 +108,7 @@ fn put_explorer<'a>(
     let tree = tree_of(alloc, given, moves, form, &nodes)?;
     put_tree_data(
         alloc, given, texts, moves, form, &tree, heading, comments, data,
-    );
+    )?;
     Ok(true)
 }
 

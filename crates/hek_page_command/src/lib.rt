@@ -30,6 +30,6 @@ pub use explorer::{
 pub use heading::Heading;
 pub use made::{Making, made_file};
 pub use page::{MOST_STEPS, Part, page_command};
-pub use played::{Judged, OrderStory, order_story};
+pub use played::{OrderStory, order_story};
 pub use step_text::StepText;
 pub use story::{Opening, StepRange, Story, story_of};

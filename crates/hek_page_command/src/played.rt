@@ -12,19 +12,12 @@ use hek_permute_command::Given;
 use hek_rules::{Event, NoMemory, Schedule, TxnId};
 use std::alloc::Global;
 
-/// The outcome of an order, and the line of the first invariant that it breaks.
-#[derive(Drop)]
-pub struct Judged {
-    pub outcome: Outcome,
-    pub breaks: Option<u64>,
-}
-
 /// The events of a play, the story of those that a page shows, and the outcome if the order is whole.
 #[derive(Drop)]
 pub struct OrderStory {
     pub events: Vec<Event>,
     pub story: Story,
-    pub outcome: Option<Judged>,
+    pub outcome: Option<Outcome>,
 }
 
 /// The play of an order, or of the first moves of one: its events, and the story of those after the first `done` ones. `moves`
@@ -42,7 +35,7 @@ pub fn order_story(
     let schedule = given.schedule;
     let play = play_order(alloc, schedule, moves, form, order)?;
     let events = events_of(alloc, &play)?;
-    let outcome = judged_of(alloc, given, moves, form, order, play)?;
+    let outcome = outcome_if_whole(alloc, given, moves, form, order, play)?;
     let story = story_of_events(alloc, schedule, events.as_slice(), done)?;
     Ok(OrderStory {
         events,
@@ -58,22 +51,20 @@ fn events_of(alloc: Global, play: &Play) -> Result<Vec<Event>, NoMemory>
 }
 
 /// The outcome of a play, if the order is whole.
-fn judged_of(
+fn outcome_if_whole(
     alloc: Global,
     given: &Given<'_>,
     moves: &[Moves],
     form: Form,
     order: &[TxnId],
     play: Play,
-) -> Result<Option<Judged>, OrderFault>
+) -> Result<Option<Outcome>, OrderFault>
     requires { Replays given.now.schedule.now play.machine play.history.items }
 {
     if !is_whole(moves, form, order) {
         return Ok(None);
     }
-    let outcome = outcome_of(alloc, given.schedule, play)?;
-    let breaks = given.broken_by(alloc, &outcome)?;
-    Ok(Some(Judged { outcome, breaks }))
+    Ok(Some(outcome_of(alloc, given.schedule, play)?))
 }
 
 /// The story of these events over a schedule's rows and transactions, after the first `done` ones.

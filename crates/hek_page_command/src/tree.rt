@@ -3,12 +3,12 @@
 ghost use Rattle.std.specs.Prelude.{IfErr};
 ghost use Rattle.hek_page_command.specs.Explorers.{IsExploreStop};
 
-use crate::played::{Judged, OrderStory, order_story};
+use crate::played::{OrderStory, order_story};
 use crate::prefixes::{Prefix, order_of};
 use crate::states::{Join, Nodes};
 use crate::step_text::StepText;
 use crate::story::{StepRange, Story, story_of};
-use hek_permute::{Form, Moves, OrderFault};
+use hek_permute::{Form, Moves, OrderFault, Outcome};
 use hek_permute_command::Given;
 use hek_report::HekFault;
 use hek_rules::{NoMemory, Schedule, TxnId};
@@ -21,7 +21,7 @@ pub(crate) struct Tree {
     /// The lines of the state before the first move.
     pub opening: Vec<u8>,
     pub nodes: Vec<Node>,
-    pub outcomes: Vec<Judged>,
+    pub outcomes: Vec<Outcome>,
     pub steps: IndexSet<StepPlaces>,
     pub texts: IndexSet<Vec<u8>>,
 }
@@ -207,17 +207,17 @@ impl Tree {
     }
 
     /// The place of an outcome, which is added where no earlier one is the same.
-    fn add_outcome(&mut self, judged: Option<Judged>) -> Result<Option<usize>, NoMemory> {
-        let Some(judged) = judged else {
+    fn add_outcome(&mut self, outcome: Option<Outcome>) -> Result<Option<usize>, NoMemory> {
+        let Some(outcome) = outcome else {
             return Ok(None);
         };
         for (place, known) in self.outcomes.iter().enumerate() {
-            if known.outcome.same(&judged.outcome) {
+            if known.same(&outcome) {
                 return Ok(Some(place));
             }
         }
         let place = self.outcomes.len();
-        self.outcomes.push(judged)?;
+        self.outcomes.push(outcome)?;
         Ok(Some(place))
     }
 

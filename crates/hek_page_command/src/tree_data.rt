@@ -2,13 +2,12 @@
 use crate::comments::Comments;
 use crate::data::{put_lines, text_of};
 use crate::heading::{Heading, put_heading};
-use crate::played::Judged;
 use crate::states::Join;
 use crate::tree::{Node, StepPlaces, Tree};
-use hek_permute::{Form, Moves};
+use hek_permute::{Form, Moves, Outcome};
 use hek_permute_command::{Given, put_judged};
 use hek_report::Lines;
-use hek_rules::{Event, Schedule, TxnId};
+use hek_rules::{Event, NoMemory, Schedule, TxnId};
 use hek_worker::is_work;
 use indexmap::IndexSet;
 use std::alloc::Global;
@@ -25,13 +24,13 @@ pub(crate) fn put_tree_data(
     heading: &Heading<'_>,
     comments: &Comments,
     out: &mut Lines,
-) {
+) -> Result<(), NoMemory> {
     out.put_text("kind", "tree");
     put_heading(alloc, heading, comments, out);
     put_start(given.schedule, tree, out);
     put_names(given.schedule, out);
     put_moves(alloc, given, texts, moves, form, out);
-    put_tree(given.schedule, tree, out);
+    put_tree(alloc, given, tree, out)
 }
 
 /// Puts the state before the first move, in which nobody waits.
@@ -141,8 +140,13 @@ fn last_texts(form: Form, fails: bool) -> &'static [&'static str] {
 }
 
 /// Puts the nodes, and what they name by place.
-fn put_tree(schedule: &Schedule, tree: &Tree, out: &mut Lines) {
-    put_outcomes(schedule, tree.outcomes.as_slice(), out);
+fn put_tree(
+    alloc: Global,
+    given: &Given<'_>,
+    tree: &Tree,
+    out: &mut Lines,
+) -> Result<(), NoMemory> {
+    put_outcomes(alloc, given, tree.outcomes.as_slice(), out)?;
     put_texts("texts", &tree.texts, out);
     out.put_key("steps");
     out.begin_array();
@@ -156,18 +160,25 @@ fn put_tree(schedule: &Schedule, tree: &Tree, out: &mut Lines) {
         write_node(node, out);
     }
     out.end_array();
+    Ok(())
 }
 
 /// Puts the outcomes, each as `hek permute --json` writes one.
-fn put_outcomes(schedule: &Schedule, outcomes: &[Judged], out: &mut Lines) {
+fn put_outcomes(
+    alloc: Global,
+    given: &Given<'_>,
+    outcomes: &[Outcome],
+    out: &mut Lines,
+) -> Result<(), NoMemory> {
     out.put_key("outcomes");
     out.begin_array();
-    for judged in outcomes {
+    for outcome in outcomes {
         out.begin_object();
-        put_judged(schedule, &judged.outcome, judged.breaks, out);
+        put_judged(alloc, given, outcome, out)?;
         out.end_object();
     }
     out.end_array();
+    Ok(())
 }
 
 fn put_texts(name: &str, texts: &IndexSet<Vec<u8>>, out: &mut Lines) {

@@ -51,7 +51,11 @@ impl<'p> Given<'p> {
     }
 
     /// The line of the first invariant that an outcome breaks.
-    pub fn broken_by(&self, alloc: Global, outcome: &Outcome) -> Result<Option<u64>, NoMemory> {
+    pub(crate) fn broken_by(
+        &self,
+        alloc: Global,
+        outcome: &Outcome,
+    ) -> Result<Option<u64>, NoMemory> {
         if self.program.always().is_empty() {
             return Ok(None);
         }

@@ -19,10 +19,16 @@ fn put_outcome(schedule: &Schedule, outcome: &Outcome, out: &mut Lines) {
 }
 
 /// How each transaction ended, the rows, the word of the verdict, and the line of the first invariant that the outcome breaks.
-pub fn put_judged(schedule: &Schedule, outcome: &Outcome, breaks: Option<u64>, out: &mut Lines) {
-    put_outcome(schedule, outcome, out);
+pub fn put_judged(
+    alloc: Global,
+    given: &Given<'_>,
+    outcome: &Outcome,
+    out: &mut Lines,
+) -> Result<(), NoMemory> {
+    put_outcome(given.schedule, outcome, out);
     put_verdict(outcome.verdict(), out);
-    put_broken(breaks, out);
+    put_broken(given.broken_by(alloc, outcome)?, out);
+    Ok(())
 }
 
 /// How each transaction ended, by ID.
@@ -99,12 +105,7 @@ pub(crate) fn put_order(
 ) -> Result<(), NoMemory> {
     out.begin_line();
     out.put_names("order", given.schedule, order);
-    put_judged(
-        given.schedule,
-        outcome,
-        given.broken_by(alloc, outcome)?,
-        out,
-    );
+    put_judged(alloc, given, outcome, out)?;
     out.put_flag("waited", outcome.waited());
     out.end_line();
     Ok(())
@@ -143,12 +144,7 @@ fn put_leveled(
         out.put_number((*level).word(), count_of(tally, outcome));
     }
     out.end_object();
-    put_judged(
-        given.schedule,
-        outcome,
-        given.broken_by(alloc, outcome)?,
-        out,
-    );
+    put_judged(alloc, given, outcome, out)?;
     put_firsts(given.schedule, tallies, outcome, out);
     out.end_line();
     Ok(())
