@@ -1,18 +1,15 @@
 -- The starts of a store's slots, after one of them has changed.
 use Rattle.std.proofs.Common.{◌≡◌, ℕ, zero, suc, ◌+◌, ◌%◌, ◌<◌, ◌≤◌, ◌≢◌, true, false, ◌==◌, List, [], ◌∷◌, ◌++◌, length, slice_index_or, slice_set, refl, sym, ap, subst, ◌∙◌, ⊎_elim, arith, eqb-true, get_or-set_same, get_or-set_other, mod-lt}
-use Rattle.std.specs.Prelude.{map, Option, Some, None, is_some, not, Bool, ◌&&◌}
+use Rattle.std.specs.Prelude.{map, Option, Some, None, is_some, not, Bool}
 use Rattle.std.proofs.lemmas.List.{get_or-map}
-use Rattle.std.proofs.lemmas.Bool.{and_right, cases_eq, cond_both, or_cases, or_left, or_right, both_ways}
+use Rattle.std.proofs.lemmas.Bool.{and_from, and_parts, false≢true, cases_eq, cond_both, or_cases, or_left, or_right, both_ways}
 use Rattle.hek_rules.specs.Words.{infinity, begin_time, end_time, writer_of}
-use Rattle.hek_rules.specs.declared.word.BeginRecord.{BeginRecord}
-use Rattle.hek_rules.specs.declared.word.BeginRecord.TheVariants.{At, By}
-use Rattle.hek_rules.specs.declared.word.EndRecord.{EndRecord}
 use Rattle.hek_store.specs.declared.version.Version.{Version}
 use Rattle.hek_store.specs.declared.chains.Ends.{Ends}
 use Rattle.hek_store.specs.Stored.{no_version}
 use Rattle.hek_store.specs.Chained.{keys_of, no_ends, link_or, first_link, AreLinks}
 use Rattle.hek_store.specs.Indexed.{AreBuckets}
-use Rattle.hek_store.specs.Living.{is_past, is_over_by, is_over, is_made_by, is_replaced, is_replaced_by_any, is_gone, start_for, IsStart, IsLiving}
+use Rattle.hek_store.specs.Living.{is_past, is_over_by, is_over, is_at_or_by, is_writer, is_replaced, loses_writer, is_gone, start_for, IsStart, IsLiving}
 use Rattle.hek_store.specs.Places.{left}
 use Rattle.hek_store.proofs.Linked.{length_next, next_are_links}
 use Rattle.hek_store.proofs.Added.{same_item}
@@ -141,17 +138,24 @@ end-none time (Some from) until other e o =
 pub still_over : (time : ℕ) (x y : Version) → y.begin ≡ x.begin → is_past time (end_time x.end) ≡ false → is_over time x ≡ true → is_over time y ≡ true
 still_over time x y same e o = ap (λ w. is_over_by time (begin_time w) (end_time y.end)) same ∙ end-none time (begin_time x.begin) (end_time x.end) (end_time y.end) e o
 
--- a version that its creator has not written over is replaced for nobody
-not-replaced : (t : ℕ) (b : BeginRecord) (e : EndRecord) → (not (is_some (begin_time b)) && is_some (writer_of e)) ≡ false → (is_made_by t b && is_some (writer_of e)) ≡ false
-not-replaced t (At time) e h = refl
-not-replaced t (By u) e h = and_right (u == t) (is_some (writer_of e)) h
+-- a writer that is not lost is still the writer
+still-writer : (t : ℕ) (was now : Option ℕ) → loses_writer was now ≡ false → is_writer t was ≡ true → is_writer t now ≡ true
+still-writer t None now kept is = absurd (false≢true is)
+still-writer t (Some u) None kept is = absurd (false≢true (sym kept))
+still-writer t (Some u) (Some w) kept is = subst (λ n. (n == t) ≡ true) (sym (eqb-true w u (from_not (w == u) kept))) is
+  where
+    from_not : (b : Bool) → not b ≡ false → b ≡ true
+    from_not true e = refl
+    from_not false e = absurd (false≢true (sym e))
 
--- what was gone stays so for each reader, where it was not past and its creator had not written over it
-pub still_gone : (t time : ℕ) (x y : Version) → y.begin ≡ x.begin → is_past time (end_time x.end) ≡ false → is_replaced_by_any x ≡ false → is_gone (Some t) time x ≡ true → is_gone (Some t) time y ≡ true
-still_gone t time x y same past replaced o =
+-- what was gone stays so for each reader, where its End had not come and no writer was lost
+pub still_gone : (t time : ℕ) (x y : Version) → y.begin ≡ x.begin → is_past time (end_time x.end) ≡ false → loses_writer (writer_of x.end) (writer_of y.end) ≡ false → is_gone (Some t) time x ≡ true → is_gone (Some t) time y ≡ true
+still_gone t time x y same past kept o =
     ⊎_elim
     (λ over. or_left (is_over time y) (is_replaced t y) (still_over time x y same past over))
-    (λ mine. absurd (both_ways (is_replaced t x) (not-replaced t x.begin x.end replaced) mine))
+    (λ mine. let parts = and_parts (is_at_or_by t x.begin) (is_writer t (writer_of x.end)) mine in
+    or_right (is_over time y) (is_replaced t y)
+    (and_from (is_at_or_by t y.begin) (is_writer t (writer_of y.end)) (ap (is_at_or_by t) same ∙ parts.0) (still-writer t (writer_of x.end) (writer_of y.end) kept parts.1)))
     (or_cases (is_over time x) (is_replaced t x) o)
 
 -- the start for a reader is one

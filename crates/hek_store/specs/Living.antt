@@ -1,5 +1,5 @@
 -- Living versions: which versions are over or gone for a reader, and which versions of a key a list may leave out.
-use Rattle.std.specs.Prelude.{◌≡◌, ℕ, zero, suc, ◌-◌, ◌%◌, ◌<◌, ◌≤◌, ◌==◌, ◌||◌, ◌&&◌, not, is_some, nat_lt, if◌then◌else◌, Bool, true, false, Option, Some, None, List, length, filter, slice_index_or}
+use Rattle.std.specs.Prelude.{◌≡◌, ℕ, zero, suc, ◌-◌, ◌%◌, ◌<◌, ◌≤◌, ◌==◌, ◌||◌, ◌&&◌, not, nat_lt, if◌then◌else◌, Bool, true, false, Option, Some, None, List, length, filter, slice_index_or}
 use Rattle.hek_rules.specs.Words.{infinity, begin_time, end_time, writer_of}
 use Rattle.hek_rules.specs.declared.word.BeginRecord.{BeginRecord}
 use Rattle.hek_rules.specs.declared.word.BeginRecord.TheVariants.{At, By}
@@ -19,17 +19,24 @@ is_over_by time (Some from) until = is_past time until || from == infinity
 abbrev pub is_over : ℕ → Version → Bool
 is_over time x = is_over_by time (begin_time x.begin) (end_time x.end)
 
-abbrev pub is_made_by : ℕ → BeginRecord → Bool
-is_made_by t (At time) = false
-is_made_by t (By u) = u == t
+-- Begin is a time, or t
+abbrev pub is_at_or_by : ℕ → BeginRecord → Bool
+is_at_or_by t (At time) = true
+is_at_or_by t (By u) = u == t
 
--- t made the version, and it is written over
+abbrev pub is_writer : ℕ → Option ℕ → Bool
+is_writer t None = false
+is_writer t (Some u) = u == t
+
+-- t writes over the version, which another transaction is not still making
 abbrev pub is_replaced : ℕ → Version → Bool
-is_replaced t x = is_made_by t x.begin && is_some (writer_of x.end)
+is_replaced t x = is_at_or_by t x.begin && is_writer t (writer_of x.end)
 
--- some transaction made the version, and it is written over
-abbrev pub is_replaced_by_any : Version → Bool
-is_replaced_by_any x = not (is_some (begin_time x.begin)) && is_some (writer_of x.end)
+-- there was a writer, and it is not the writer now
+abbrev pub loses_writer : Option ℕ → Option ℕ → Bool
+loses_writer None now = false
+loses_writer (Some t) None = true
+loses_writer (Some t) (Some u) = not (u == t)
 
 -- the reader, or everybody for None, does not see the version when looking at this time or later
 abbrev pub is_gone : Option ℕ → ℕ → Version → Bool

@@ -1,8 +1,8 @@
 //! Living versions: the versions of a key without some of the first, which a reader does not see.
 ghost use Rattle.std.specs.Prelude.{◌≡◌, ℕ, ◌%◌, ◌<◌, ◌≤◌, Some, length, slice_index_or, slice_set};
-ghost use Rattle.hek_rules.specs.Words.{end_time};
+ghost use Rattle.hek_rules.specs.Words.{end_time, writer_of};
 ghost use Rattle.hek_store.specs.Chained.{AreLinks, keys_of, next_links, no_ends};
-ghost use Rattle.hek_store.specs.Living.{IsLiving, IsStart, is_gone, is_over, is_past, is_replaced, is_replaced_by_any, start_for};
+ghost use Rattle.hek_store.specs.Living.{IsLiving, IsStart, is_gone, is_over, is_past, is_at_or_by, is_writer, is_replaced, loses_writer, start_for};
 ghost use Rattle.hek_store.specs.Places.{key_versions_left};
 
 use crate::chains::Ends;
@@ -11,7 +11,7 @@ use crate::slots::slot_of;
 use crate::store::Store;
 use crate::version::Version;
 use hek_rules::{BeginRecord, Time, TxnId};
-use hek_word::EndWord;
+use hek_word::{BeginWord, EndWord};
 
 /// Whether the word is a time that is not after this one.
 pub(crate) fn is_past(end: EndWord, time: Time) -> bool
@@ -34,23 +34,39 @@ fn is_over(version: &Version, time: Time) -> bool
     }
 }
 
-/// Whether the transaction made the version, and it is written over.
-fn is_replaced_for(version: &Version, reader: TxnId) -> bool
-    ensures { result ≡ is_replaced reader version.now }
+fn is_at_or_by(begin: BeginWord, reader: TxnId) -> bool
+    ensures { result ≡ is_at_or_by reader begin }
 {
-    match version.begin.content() {
-        BeginRecord::By(creator) => {
-            creator.number() == reader.number() && version.end.writer().is_some()
-        }
-        BeginRecord::At(_) => false,
+    match begin.content() {
+        BeginRecord::At(_) => true,
+        BeginRecord::By(creator) => creator.number() == reader.number(),
     }
 }
 
-/// Whether some transaction made the version, and it is written over.
-pub(crate) fn is_replaced(version: &Version) -> bool
-    ensures { result ≡ is_replaced_by_any version.now }
+fn is_writer(end: EndWord, reader: TxnId) -> bool
+    ensures { result ≡ is_writer reader (writer_of end) }
 {
-    version.begin.time().is_none() && version.end.writer().is_some()
+    match end.writer() {
+        Some(writer) => writer.number() == reader.number(),
+        None => false,
+    }
+}
+
+/// Whether the transaction writes over the version, which another transaction is not still making.
+fn is_replaced(version: &Version, reader: TxnId) -> bool
+    ensures { result ≡ is_replaced reader version.now }
+{
+    is_at_or_by(version.begin, reader) && is_writer(version.end, reader)
+}
+
+/// Whether the first word names a writer that the second does not name.
+pub(crate) fn loses_writer(was: EndWord, now: EndWord) -> bool
+    ensures { result ≡ loses_writer (writer_of was) (writer_of now) }
+{
+    match was.writer() {
+        Some(writer) => !is_writer(now, writer),
+        None => false,
+    }
 }
 
 /// Whether the reader, or everybody if there is none, does not see the version when looking at this time or later.
@@ -59,7 +75,7 @@ fn is_gone(version: &Version, reader: &Option<TxnId>, time: Time) -> bool
 {
     match reader {
         None => is_over(version, time),
-        Some(t) => is_over(version, time) || is_replaced_for(version, *t),
+        Some(t) => is_over(version, time) || is_replaced(version, *t),
     }
 }
 
@@ -120,7 +136,7 @@ fn start_for(
 
 impl Store {
     /// The versions of a key in order of creation, without some of the first that the reader does not see when looking
-    /// at this time or later: those that are over, and those that the reader made and has written over. Each takes time
+    /// at this time or later: those that are over, and those that the reader has written over. Each takes time
     /// in the versions of other keys that share its slot.
     pub fn living_of(&self, key: u64, reader: TxnId, time: Time) -> KeyVersions<'_>
         ensures { IsLiving self.now.versions key (is_gone (Some reader) time) (key_versions_left result) }
