@@ -23,11 +23,8 @@ async function eventsOf() {
   return got.status === 0 ? got.out : null;
 }
 
-// The last of the machine's steps in the moves so far.
-const lastStep = () => Math.max(0, ...player.story.columns.slice(0, now.step).flatMap(it => it.steps));
-
 // Shows the panels of the machine at a step: at the last one of the move.
-async function openMachine(step = lastStep()) {
+async function openMachine(step = Story.story.stepAfter(player.story, now.step)) {
   if (!wasm || model?.isLog) return sayPanel(model?.isLog ? "A log has no machine: an engine wrote it." : NOT_LOADED);
   openPanel("machine");
   sentTo = `${step}`;
@@ -99,13 +96,11 @@ function openPanel(name) {
 // Back to the story; from the machine at the move that its step belongs to.
 function closePanel() {
   if (panel === null) return;
-  const step = panel === "machine" && sentTo === "" ? Number(framePlace) : NaN;
   panel = null;
   delete document.body.dataset.panel;
   if ($("panel").contains(document.activeElement)) document.activeElement.blur();
   $("panel").hidden = true;
   if (now.mode === "machine") now.mode = "";
-  if (step >= 0) now.step = movesUntil(step);
   draw();
 }
 
@@ -160,15 +155,12 @@ function followMachine(step, isThere) {
   const {story} = player, columns = story?.columns ?? [];
   markAt((columns.findLast(it => it.steps.some(other => other <= step))?.line ?? 0) - 1, false);
   if (!story) return;
-  if (!isThere) now.step = movesUntil(step);
+  if (!isThere) now.step = Story.story.movesAt(story, step);
   player.place = now;
   player.showTold(story, false, !isThere);
   player.showState(story);
   $("st-prev").disabled = step === 0;
 }
-
-// How many moves are begun after a step of the machine.
-const movesUntil = step => (player.story?.columns ?? []).filter(it => it.steps.some(other => other <= step)).length;
 
 function takeModes({theme, ...its}) {
   modes = {...modes, ...its};

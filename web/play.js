@@ -284,7 +284,7 @@ function listen() {
 
 // The machine at one of its steps, of which the prose speaks.
 function openMachineAt(step) {
-  now.step = (player.story?.columns.findLastIndex(it => it.steps.some(other => other <= step)) ?? -1) + 1;
+  now.step = Story.story.movesAt(player.story, step);
   openMachine(step);
 }
 

@@ -163,7 +163,11 @@ function shortVerdict({ verdict, names, ends }) { const out = names.filter((name
 function samePlace(from, position, to) { if (position > from.columns.length) return to.columns.length + 1; if (to === from || position === 0) return position;
   if (position === from.columns.length) return to.columns.length;
   return to.columns.findLastIndex((it) => !it.isLate && it.place <= from.columns[position - 1].place) + 1; }
-return { storyOf, verdictKind, VERDICTS, shortVerdict, samePlace }; })(); Story.layout = (() => { const { wide } = Story.text;
+function stepAfter({ columns }, moves) {
+  const isEnd = moves > columns.length, own = columns.slice(0, moves).filter(({ steps }) => steps.length).slice(isEnd ? 0 : -1), next = columns.slice(moves);
+  return Math.min(Math.max(0, ...own.flatMap(({ steps }) => steps)), ...next.flatMap(({ steps }) => steps.map((it) => it - 1))); }
+const movesAt = ({ columns }, step) => columns.findLastIndex(({ steps }) => steps.some((it) => it <= step)) + 1;
+return { storyOf, verdictKind, VERDICTS, shortVerdict, samePlace, stepAfter, movesAt }; })(); Story.layout = (() => { const { wide } = Story.text;
 const { L, M, S, XL, clamp } = Story.svg; function wordsOf(column) { const { kind, key, value } = column; switch (kind) {
     case "read": return { tops: [`read ${key}`, `r ${key}`, `${key}`], value: value ?? "–" };
     case "scan": return { tops: [`scan ${column.bucket ?? ""}`, "scan"], value: column.rows.map(([row, its]) => `${row}=${its}`).join(" ") || "–" };
@@ -701,7 +705,7 @@ function showText(element, text, story, step) {
   const here = element.querySelector(".here, .broken") ?? (step === 0 ? element.firstElementChild : null);
   if (here) element.scrollTop = here.offsetTop - element.offsetTop - element.clientHeight / 2; }
 return { Player, showText }; })(); Story.page = (() => { const { Player, showText } = Story.player; const { playOfLog } = Story.log;
-const { storyOf } = Story.story; const { WRITTEN } = Story.view; const LEVELS = ["serializable", "repeatable", "snapshot"];
+const { movesAt, stepAfter, storyOf } = Story.story; const { WRITTEN } = Story.view; const LEVELS = ["serializable", "repeatable", "snapshot"];
 const byId = (id) => document.getElementById(id); const wordOf = (level) => (level === WRITTEN ? "written" : level);
 const same = (one, other) => one.join(" ") === other.join(" ");
 const levelOf = ({ level, levels }) => level ?? (new Set(levels).size === 1 ? levels[0] : WRITTEN); function outcomesOf(rows) { if (!rows.length) return {};
@@ -733,9 +737,9 @@ class StoryPage { constructor(sheet, objects, panels) { Object.assign(this, { sh
     if (isEntry) try { history.pushState({ depth: (history.state?.depth ?? 0) + 1 }, "", this.address()); } catch {}
     if (order && this.has(order)) this.order = order; this.place = { ...this.place, ...rest }; this.show(options); this.write(); return undefined; }
   openMachine() { if (!this.panels || this.isLog) return; document.documentElement.classList.remove("told");
-    this.panels.open(Math.max(0, ...this.player.story.columns.slice(0, this.place.step).flatMap((it) => it.steps))); }
-  close(step) { this.place = { ...this.place, mode: "", step: this.player.story.columns.filter((it) => it.steps.some((other) => other <= step)).length };
-    this.show(); this.write(); }
+    this.opened = stepAfter(this.player.story, this.place.step); this.panels.open(this.opened); }
+  close(step) { this.place = { ...this.place, mode: "", step: step === this.opened ? this.place.step : movesAt(this.player.story, step) }; this.show();
+    this.write(); }
   address() {
     const { level, step } = this.place, isOwn = same(this.order, this.own.order ?? []), order = isOwn ? "" : `/${this.order.join(".")}`, front = isOwn && level === levelOf(this.own) ? "" : `${wordOf(level)}${order}`;
     return `#${front}${step || front ? `@${step}` : ""}`; }
