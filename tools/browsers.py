@@ -180,6 +180,8 @@ class Firefox:
         self.socket = self.connect(port)
         self.message()
         self.call("WebDriver:NewSession", capabilities={"alwaysMatch": {"unhandledPromptBehavior": "ignore"}})
+        # A machine may be slow: an expression has ten minutes, in milliseconds.
+        self.call("WebDriver:SetTimeouts", script=600_000)
         self.call("WebDriver:Navigate", url="about:blank")
 
     def connect(self, port):

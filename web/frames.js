@@ -2,6 +2,8 @@
 
 // What lies over the story, or null: "machine", "explorer" or "trace".
 let panel = null, frame = null, coming = null, framePlace = "", frameTurn = 0;
+// The step to which the machine was sent last.
+let sentTo = "";
 // A page of hek has at most so many steps, and a longer trace is not drawn line by line.
 const MOST_STEPS = 2000, MOST_LINES = 5000;
 // A step after the last one of any story.
@@ -21,13 +23,11 @@ async function eventsOf() {
   return got.status === 0 ? got.out : null;
 }
 
-// The last of the machine's steps in the moves so far.
-const lastStep = () => Math.max(0, ...player.story.columns.slice(0, now.step).flatMap(it => it.steps));
-
 // Shows the panels of the machine at a step: at the last one of the move.
-async function openMachine(step = lastStep()) {
+async function openMachine(step = Story.story.stepAfter(player.story, now.step)) {
   if (!wasm || model?.isLog) return sayPanel(model?.isLog ? "A log has no machine: an engine wrote it." : NOT_LOADED);
   openPanel("machine");
+  sentTo = `${step}`;
   if (frame?.told === model.id + now.level) return send(frame, {place: `${step}`, modes});
   const mine = ++frameTurn, schedule = await eventsOf();
   if (schedule === null || mine !== frameTurn) return undefined;
@@ -96,13 +96,11 @@ function openPanel(name) {
 // Back to the story; from the machine at the move that its step belongs to.
 function closePanel() {
   if (panel === null) return;
-  const step = panel === "machine" ? Number(framePlace) : NaN;
   panel = null;
   delete document.body.dataset.panel;
+  if ($("panel").contains(document.activeElement)) document.activeElement.blur();
   $("panel").hidden = true;
   if (now.mode === "machine") now.mode = "";
-  const {columns} = player.story ?? {columns: []};
-  if (step >= 0) now.step = columns.filter(it => it.steps.some(other => other <= step)).length;
   draw();
 }
 
@@ -129,26 +127,39 @@ function arrived() {
 
 addEventListener("message", ({source, data}) => {
   if (!data?.hek || source !== (coming ?? frame)?.contentWindow) return;
-  if (data.hek === "key") return void pageKey({key: String(data.key), target: document.body, preventDefault() {}});
+  if (data.hek === "key") return toldKey(String(data.key));
   if (data.hek !== "place" || (coming && !data.went)) return;
   if (coming) arrived();
   takeModes(data.modes ?? {});
   $("blank").hidden = !data.isBlank;
-  framePlace = String(data.place);
-  if (panel === "machine") markLineOfStep(Number(framePlace));
+  const isThere = [framePlace, sentTo].includes(String(data.place));
+  [framePlace, sentTo] = [String(data.place), ""];
+  if (panel === "machine") followMachine(Number(framePlace), isThere);
   if (panel === "explorer" && data.isOver === true && !data.went && !modes.secret) tellExplored(framePlace.split("."));
   else tellAddress();
 });
+
+// A key that means nothing to the page in the frame: it isn't sent there again.
+function toldKey(key) {
+  if (key === "print") print();
+  else pageKey({key, target: document.body, isTold: true, preventDefault() {}});
+}
 
 // The order at whose end the explorer is has its story, at the verdict; "back" is the explorer.
 function tellExplored(order) {
   goTo({order, mode: "", step: LAST}, true);
 }
 
-// The line of the machine's step: that of the last move before it.
-function markLineOfStep(step) {
-  const column = player.story?.columns.findLast(it => it.steps.some(other => other <= step));
-  markAt((column?.line ?? 0) - 1, false);
+// What stands beside the machine follows its step: the line, and the move to which it belongs, unless the machine was sent there from a move.
+function followMachine(step, isThere) {
+  const {story} = player, columns = story?.columns ?? [];
+  markAt((columns.findLast(it => it.steps.some(other => other <= step))?.line ?? 0) - 1, false);
+  if (!story) return;
+  if (!isThere) now.step = Story.story.movesAt(story, step);
+  player.place = now;
+  player.showTold(story, false, !isThere);
+  player.showState(story);
+  $("st-prev").disabled = step === 0;
 }
 
 function takeModes({theme, ...its}) {

@@ -182,7 +182,7 @@ function pageKey(event) {
   else if (key === "n" || key === "N") goBy(key === "n" ? 1 : -1);
   else if (panel && (key === "Escape" || (key === "m" && panel === "machine"))) closePanel();
   else if (Object.hasOwn(OWN_KEYS, key)) DOES[OWN_KEYS[key]]();
-  else if (panel) { if (!frameKey(event)) return; } else if (!player.key(event)) return;
+  else if (panel) { if (event.isTold || !frameKey(event)) return; } else if (!player.key(event)) return;
   event.preventDefault();
 }
 
@@ -284,7 +284,7 @@ function listen() {
 
 // The machine at one of its steps, of which the prose speaks.
 function openMachineAt(step) {
-  now.step = (player.story?.columns.findLastIndex(it => it.steps.some(other => other <= step)) ?? -1) + 1;
+  now.step = Story.story.movesAt(player.story, step);
   openMachine(step);
 }
 

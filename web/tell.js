@@ -187,10 +187,12 @@ function draw(options) {
   if (!model) return;
   const most = model.stories[now.level].columns.length + 1;
   now.step = Math.max(0, Math.min(now.step, most));
+  // What isn't shown has no width: the story is drawn when it is.
+  $("st-main").hidden = panel !== null;
   player.show(model, now, options);
   $("st-back").hidden = !(history.state?.depth > 0);
-  $("st-machine").hidden = model.isLog === true;
-  $("st-main").hidden = panel !== null;
+  // Where moves are asked for, the machine would tell them.
+  $("st-machine").hidden = model.isLog === true || now.asks;
   markLine();
   changedNote();
   tellAddress();
@@ -204,6 +206,7 @@ function markLine() {
 
 // Goes to another place of the story, with an entry of the browser's history for another level or order.
 function goTo(change, isEntry = false, options = {}) {
+  if (change.mode === "machine" && now.asks) return undefined;
   if (isEntry) enter();
   if (change.mode === "" && panel) closePanel();
   const {order, ...rest} = change;

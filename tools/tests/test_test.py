@@ -36,6 +36,12 @@ class Counts(Tree):
         self.assertEqual(self.counts(self.test.read_examples(1, "README.md:3: $ hek\n304 examples compared, 2 fences left out, 1 differ\n")), (303, 1))
         self.assertEqual(self.counts(self.test.read_examples(1, "Traceback\n")), (0, 1))
 
+    def test_what_is_left_out_whole_counts_as_nothing_and_is_said(self):
+        result = self.test.read_beside(0, "Left out: there is no Node\n")
+        self.assertEqual((*self.counts(result), result.lines()), (0, 0, ["    Left out: there is no Node"]))
+        self.assertEqual(self.counts(self.test.read_beside(0, "1 examples compared, 0 fences left out, 0 differ\n")), (1, 0))
+        self.assertEqual(self.counts(self.test.read_beside(1, "Left out: there is no Node\n")), (0, 1))
+
     def test_units_count_as_unittest_says(self):
         self.assertEqual(self.counts(self.test.read_units(0, "Ran 24 tests in 0.7s\n\nOK\n")), (24, 0))
         self.assertEqual(self.counts(self.test.read_units(1, "Ran 24 tests in 0.7s\n\nFAILED (failures=2, errors=1)\n")), (21, 3))

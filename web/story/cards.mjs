@@ -1,5 +1,5 @@
 // A story in a thumbnail, and the outcomes of all orders as bars. Pure.
-import { esc, grouped, wide } from "./text.mjs";
+import { cut, esc, grouped, wide } from "./text.mjs";
 import { DEFS, S, colour, path, r1, rect, svg, text, title } from "./svg.mjs";
 import { VERDICTS, verdictKind } from "./story.mjs";
 
@@ -58,21 +58,31 @@ export function saidOutcome(outcome, { orders }) {
 /** The height of a bar with its words, in the size of ordinary text. */
 export const BAR = 1.45;
 
+/** The names before the marks of a bar, in so much room with `rest` after them: whole if they are short beside the bars, with a sign where they are cut, or none. */
+function namesIn(names, widthOf, room, rest) {
+  const sum = (all) => all.reduce((so, it) => so + widthOf(it), 0), cuts = names.map((name) => (name.length > 3 ? `${name.slice(0, 2)}.` : name));
+  if (sum(names) <= 0.4 * room) return names;
+  return sum(cuts) + rest <= room ? cuts : names.map(() => "");
+}
+
+const marked = (name, mark) => `${name} ${mark}`.trim();
+
 /** A bar for each outcome, as long as its share of the orders; each names an order that has it. */
 export function bars(counted, names, w, u, isHere = () => false) {
   const size = S * u, high = BAR * u, all = sorted(counted.outcomes), most = Math.max(...all.map((it) => it.orders)), alike = new Set(all.map((it) => it.ends.map(({ end }) => end).join())).size < all.length;
-  const short = names.join("").length > 6 ? names.map((name) => name.slice(0, 2)) : names, widths = short.map((name) => wide(`${name} ✓`, size, 700) + 0.45 * u), left = widths.reduce((sum, it) => sum + it, 0.4 * u);
   const isOther = (outcome) => verdictKind(outcome.verdict) === "other", countOf = (outcome) => `${isBroken(outcome) ? "✗ " : ""}${grouped(outcome.orders)}`;
+  const widthOf = (name) => wide(marked(name, "✓"), size, 700) + 0.45 * u, counts = Math.max(...all.map((it) => wide(countOf(it), size, 700))), short = namesIn(names, widthOf, w, counts + 1.9 * u);
+  const widths = short.map(widthOf), left = widths.reduce((sum, it) => sum + it, 0.4 * u);
   const afterOf = (outcome) => isBroken(outcome) || isOther(outcome) ? "" : alike ? rowsOf(outcome) : outcome.ends.find(({ end }) => end !== "committed")?.end.replace("aborted ", "") ?? "";
   // A bar leaves room for the words after it, where a short one does.
   const mostOf = (outcome) => (w - left - wide(countOf(outcome), size, 700) - wide(afterOf(outcome), size) - 0.9 * u) * most / outcome.orders;
-  const room = Math.max(2 * u, Math.min((w - left - wide(`✗ ${grouped(most)}`, size, 700)) * 0.5, ...all.map(mostOf).filter((it) => it >= 2 * u)));
+  const room = Math.max(Math.min(2 * u, w - left - counts - 0.5 * u), Math.min((w - left - wide(`✗ ${grouped(most)}`, size, 700)) * 0.5, ...all.map(mostOf).filter((it) => it >= 2 * u)));
   return svg(w, high * all.length, "outcomes of all orders", DEFS + all.map((outcome, index) => {
     const y = index * high, base = y + 1.02 * u, bad = isBroken(outcome), length = Math.max(2, room * outcome.orders / most), words = saidOutcome(outcome, counted), after = afterOf(outcome), count = countOf(outcome);
     const x = left + length + 0.3 * u, next = x + wide(count, size, 700) + 0.5 * u;
-    const marks = outcome.ends.map(({ end }, t) => text(0.2 * u + widths.slice(0, t).reduce((sum, it) => sum + it, 0), base, size, `${short[t]} ${end === "committed" ? "✓" : "✗"}`, end === "committed" ? `b f${colour(t)}` : "badt", "start"));
+    const marks = outcome.ends.map(({ end }, t) => text(0.2 * u + widths.slice(0, t).reduce((sum, it) => sum + it, 0), base, size, marked(short[t], end === "committed" ? "✓" : "✗"), end === "committed" ? `b f${colour(t)}` : "badt", "start"));
     return `<g data-order="${esc(outcome.first?.join(" ") ?? "")}" role="button" tabindex="0" aria-label="${esc(words)}">${title(words)}${rect(0, y, w, high - 1, isHere(outcome) ? "band" : "chip", 3)}${marks.join("")}` +
-      rect(left, y + 0.28 * u, length, 0.85 * u, bad ? "bad" : isOther(outcome) ? "hatch" : "slate", 2) + text(x, base, size, count, `b ${bad ? "badt" : ""}`, "start") +
+      rect(left, y + 0.28 * u, length, 0.85 * u, bad ? "bad" : isOther(outcome) ? "hatch" : "slate", 2) + text(x, base, size, cut(count, w - x, size, 700), `b ${bad ? "badt" : ""}`, "start") +
       (wide(after, size) <= w - next ? text(next, base, size, after, "soft", "start") : "") + "</g>";
   }).join(""), "group");
 }

@@ -1,7 +1,7 @@
 // The story on a page of hek, whose plays are in it. The panels of the machine stand beside it: one of the two is shown.
 import { Player, showText } from "./player.mjs";
 import { playOfLog } from "./log.mjs";
-import { storyOf } from "./story.mjs";
+import { movesAt, stepAfter, storyOf } from "./story.mjs";
 import { WRITTEN } from "./view.mjs";
 
 const LEVELS = ["serializable", "repeatable", "snapshot"];
@@ -90,12 +90,13 @@ export class StoryPage {
   openMachine() {
     if (!this.panels || this.isLog) return;
     document.documentElement.classList.remove("told");
-    this.panels.open(Math.max(0, ...this.player.story.columns.slice(0, this.place.step).flatMap((it) => it.steps)));
+    this.opened = stepAfter(this.player.story, this.place.step);
+    this.panels.open(this.opened);
   }
 
-  /** Back from the machine, at the move to which its step belongs. */
+  /** Back from the machine, at the move to which its step belongs: the one that was left, if the machine is where it was opened. */
   close(step) {
-    this.place = { ...this.place, mode: "", step: this.player.story.columns.filter((it) => it.steps.some((other) => other <= step)).length };
+    this.place = { ...this.place, mode: "", step: step === this.opened ? this.place.step : movesAt(this.player.story, step) };
     this.show();
     this.write();
   }

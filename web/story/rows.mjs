@@ -13,14 +13,15 @@ export function keys(story, at) {
   return svg(at.gutter, height(story, at), "rows", (story.views.length ? text(2, at.u, S * u, "row", "soft", "start") : "") + rows.join("") + always.join(""));
 }
 
-/** The committed values of a key so far: the bar of each, and where its words stand, from `low` to `high`. */
+/** The committed values of a key so far: the bar of each, and where its words stand, from `low` to `high`. Those of the last one may go past its bar, where nothing is drawn yet. */
 function valuesOf({ segments }, at, now, till) {
   const size = M * at.u;
   let before = 0;
   return segments.filter(({ t, from }) => t === null || from < now).map(({ from, to, value, t }) => {
-    const isOpening = t === null, x = isOpening ? 0 : at.mid(from), w = till(0, to) - x || at.pad, words = value ?? NONE, own = wide(words, size, 700), room = Math.max(w - (isOpening ? 6 : 10), at.pad - 8);
+    const isOpening = t === null, isLast = to === null || to >= now, x = isOpening ? 0 : at.mid(from), w = till(0, to) - x || at.pad, words = value ?? NONE, own = wide(words, size, 700);
+    const room = Math.max((isLast ? at.w - x : w) - (isOpening ? 6 : 10), at.pad - 8);
     // At the end of the picture a value stands left of its mark, where it has room.
-    const isLeft = !isOpening && to === null && own > w - 10 && own + 8 < x - before, low = isLeft ? x - 4 - own : x + (isOpening ? 5 : 9);
+    const isLeft = !isOpening && isLast && own > room && own + 8 < x - before, low = isLeft ? x - 4 - own : x + (isOpening ? 5 : 9);
     before = x + Math.min(own, room) + 12;
     return { x, w, t, isLeft, words, said: isLeft ? words : cut(words, room, size, 700), low, high: low + (isLeft ? own : Math.min(own, room)) };
   });
@@ -40,8 +41,9 @@ function track(it, at, y, now, till) {
   }
   for (const { t, from, to, value, end } of pending) {
     if (from >= now) continue;
-    const x = at.mid(from), until = till(0, to), w = Math.max(until - x, 2) - 2;
-    parts.push(rect(x, y + 0.06 * u, w, bar - 0.1 * u, `pend s${colour(t)}`, 2), text(x + 4, y + bar - 0.14 * u, S * u, cut(value ?? NONE, Math.max(w - 4, at.width(from) / 2), S * u), `f${colour(t)}`, "start"));
+    const x = at.mid(from), until = till(0, to), w = Math.max(until - x, 2) - 2, isOpen = (to === null || to >= now) && !pending.some((other) => other.from > from && other.from < now);
+    const room = Math.max(isOpen ? at.w - x - 6 : w - 4, at.width(from) / 2);
+    parts.push(rect(x, y + 0.06 * u, w, bar - 0.1 * u, `pend s${colour(t)}`, 2), text(x + 4, y + bar - 0.14 * u, S * u, cut(value ?? NONE, room, S * u), `f${colour(t)}`, "start"));
     if (end === "abort" && to < now) parts.push(text(until + 1, y + bar - 0.12 * u, S * u, "✗", "b badt", "start"));
   }
   return parts.join("");

@@ -249,3 +249,14 @@ export function samePlace(from, position, to) {
   if (position === from.columns.length) return to.columns.length;
   return to.columns.findLastIndex((it) => !it.isLate && it.place <= from.columns[position - 1].place) + 1;
 }
+
+// ---- the machine's steps
+
+/** The machine's step after so many moves: the last one of the latest move before the next one begins, and at the verdict the last of all. */
+export function stepAfter({ columns }, moves) {
+  const isEnd = moves > columns.length, own = columns.slice(0, moves).filter(({ steps }) => steps.length).slice(isEnd ? 0 : -1), next = columns.slice(moves);
+  return Math.min(Math.max(0, ...own.flatMap(({ steps }) => steps)), ...next.flatMap(({ steps }) => steps.map((it) => it - 1)));
+}
+
+/** How many moves are begun after a step of the machine. */
+export const movesAt = ({ columns }, step) => columns.findLastIndex(({ steps }) => steps.some((it) => it <= step)) + 1;

@@ -115,7 +115,8 @@ export function told(model, story, { level }, hidesAfter = Infinity) {
   const tell = (position, html) => (position > hidesAfter ? "" : `<div class="tell" data-step="${position}">${html}</div>${beside(position)}`);
   const moves = story.columns.map((it, index) => tell(index + 1, `<p><b>${index + 1}</b> ${rich(sentences([it.say, it.why]), story.names)}</p>`));
   const { verdict } = story, said = `<p><b>${rich(verdict.say, story.names)}.</b> ${rich([verdict.tail, ...verdict.edges.map((it) => it.say)].filter(Boolean).join(" "), story.names)}</p>`;
-  return tell(0, model.intro ?? `<p>${esc(model.about)}</p>${model.question ? `<p class="ask">${esc(model.question)}</p>` : ""}`) + moves.join("") + tell(end, said) + (hidesAfter < end ? "" : model.after ?? "");
+  const paragraph = (words, kind) => (words ? `<p class="${kind}">${esc(words)}</p>` : "");
+  return tell(0, model.intro ?? paragraph(model.about, "about") + paragraph(model.question, "ask")) + moves.join("") + tell(end, said) + (hidesAfter < end ? "" : model.after ?? "");
 }
 
 /** The run in plain lines, for a file or the clipboard. */

@@ -11,7 +11,8 @@ use hek_levels_search::{Problem, at, part};
 struct Kinds {
     reads: usize,
     overwritten: usize,
-    /// Those of them whose reader writes the key too, where of two writers of a key one sees the other.
+    /// Edges of a read that was written over, too, but by one whose reader writes the key itself, where of two writers
+    /// of a key one sees the other. They are no part of `overwritten`.
     rivals: usize,
     /// Versions that follow from what one transaction saw of both.
     seen: usize,

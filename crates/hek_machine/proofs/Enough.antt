@@ -1,11 +1,11 @@
 -- Versions of a key that suffice for a transaction: those left out add nothing to a walk, are not seen, and claim
 -- nothing.
 use Rattle.std.proofs.Common.{◌≡◌, ℕ, zero, suc, ◌+◌, ◌<◌, ◌%◌, Bool, true, false, List, [], ◌∷◌, refl, ◌∙◌, ap, sym, subst, arith, length, Option, ⊎_elim}
-use Rattle.std.proofs.lemmas.Bool.{cases_Bool, cases_lt, cond-true, cond-false, cond_both, eqb-true, false≢true, le-ltb, lt-ltb}
-use Rattle.std.specs.Prelude.{◌==◌, ◌≤◌, ◌⊎◌, not, nat_lt, None, ◌&&◌, ◌||◌, filter, if◌then◌else◌, slice_index_or}
+use Rattle.std.proofs.lemmas.Bool.{and_parts, or_cases, cases_Bool, cases_lt, cond-true, cond-false, cond_both, eqb-true, false≢true, le-ltb, lt-ltb}
+use Rattle.std.specs.Prelude.{◌==◌, ◌≤◌, ◌⊎◌, not, nat_lt, Some, None, ◌&&◌, ◌||◌, filter, if◌then◌else◌, slice_index_or}
 use Rattle.std.specs.List.{All, AllByRecursion, list_any}
-use Rattle.hek_rules.specs.World.{World, Version, Txn, EndedAt, Held, txn_in, version_in, bucket_of, places}
-use Rattle.hek_rules.specs.Words.{infinity, begin_time, end_time}
+use Rattle.hek_rules.specs.World.{World, Version, Txn, EndedAt, Held, is_active, txn_in, version_in, bucket_of, places}
+use Rattle.hek_rules.specs.Words.{infinity, begin_time, end_time, writer_of}
 use Rattle.hek_rules.specs.Shown.{ender_of}
 use Rattle.hek_rules.specs.declared.event.Level.{Level}
 use Rattle.hek_rules.specs.declared.event.Level.TheVariants.{Serializable, Repeatable, Snapshot}
@@ -14,7 +14,7 @@ use Rattle.hek_rules.specs.declared.word.BeginRecord.TheVariants.{At, By}
 use Rattle.hek_rules.specs.declared.word.EndRecord.{EndRecord}
 use Rattle.hek_rules.specs.declared.word.EndRecord.TheVariants.{Until, Lock}
 use Rattle.hek_rules.specs.declared.event.Sight.TheVariants.{Seen, Hidden}
-use Rattle.hek_rules.specs.Visibility.{sight, sight_by, end_sight, is_seen}
+use Rattle.hek_rules.specs.Visibility.{sight, sight_by, end_sight, own_sight, under_writer, from_creator, is_seen}
 use Rattle.hek_rules.specs.Walk.{Judgement, Refuse, Allow, Purpose, behind, and_then, looks_at, read_time, version_judged, versions_judged, bucket_effects, seen_of, last, walk}
 use Rattle.hek_rules.specs.Table.{claims, is_claim, is_claimed}
 use Rattle.hek_store.specs.declared.version.Version.{Version as StoredVersion}
@@ -30,7 +30,7 @@ use Rattle.hek_machine.proofs.KeyPlaces.{of_key-below, of_key-same, filter_below
 use Rattle.hek_machine.proofs.RuleWalks.{key_places}
 use Rattle.hek_machine.proofs.WalkRules.{sight-shown, sight_time}
 use Rattle.hek_machine.proofs.ClaimRules.{claim_shown}
-use Rattle.hek_store.specs.Living.{IsLiving, is_over, is_over_by, is_past}
+use Rattle.hek_store.specs.Living.{IsLiving, is_over, is_over_by, is_past, is_at_or_by, is_writer, is_replaced, is_gone}
 
 -- ---- lists without some of their members
 
@@ -204,14 +204,49 @@ over_idle m t v o now over =
       claims = claim_shown m t v x.begin false refl (sym (unclaimed m.txns.cores t (looks m t) m.clock level x.begin x.end now over));
     }
 
+-- ---- versions that the transaction itself wrote over
+
+written-over : (ts : List Txn) (reader rt : ℕ) (e : EndRecord) → is_writer reader (writer_of e) ≡ true → (end_sight ts reader rt (ender_of e) ≡ Hidden) × (own_sight (ender_of e) ≡ Hidden)
+written-over ts reader rt (Until until) y = absurd (false≢true y)
+written-over ts reader rt (Lock readers None no_more) y = absurd (false≢true y)
+written-over ts reader rt (Lock readers (Some w) no_more) y = (cond-true (w == reader) Hidden (under_writer rt w (txn_in ts w).end (txn_in ts w).state) y, refl)
+
+hidden-replaced : (ts : List Txn) (reader rt : ℕ) (b : BeginRecord) (e : EndRecord) → (is_at_or_by reader b && is_writer reader (writer_of e)) ≡ true → sight_by ts reader rt b (ender_of e) ≡ Hidden
+hidden-replaced ts reader rt (At from) e h =
+    cond_both (nat_lt rt from) Hidden (end_sight ts reader rt (ender_of e)) (λ s. s ≡ Hidden) (λ y. refl) (λ n. (written-over ts reader rt e h).0)
+hidden-replaced ts reader rt (By u) e h =
+    let parts = and_parts (u == reader) (is_writer reader (writer_of e)) h in
+    cond-true (u == reader) (own_sight (ender_of e)) (from_creator rt u (txn_in ts u).end (txn_in ts u).state (end_sight ts reader rt (ender_of e))) parts.0
+    ∙ (written-over ts reader rt e parts.1).1
+
+unclaimed-replaced : (ts : List Txn) (t rt : ℕ) (level : Level) (b : BeginRecord) (e : EndRecord) → LooksNow level → (is_at_or_by t b && is_writer t (writer_of e)) ≡ true → claims ts t rt level b ≡ false
+unclaimed-replaced ts t rt Snapshot b e n h = absurd n
+unclaimed-replaced ts t rt Repeatable (At from) e n h = refl
+unclaimed-replaced ts t rt Repeatable (By u) e n h = ap (λ same. not same && is_active (txn_in ts u).state) (and_parts (u == t) (is_writer t (writer_of e)) h).0
+unclaimed-replaced ts t rt Serializable (At from) e n h = refl
+unclaimed-replaced ts t rt Serializable (By u) e n h = ap (λ same. not same && is_active (txn_in ts u).state) (and_parts (u == t) (is_writer t (writer_of e)) h).0
+
+replaced_idle : (m : Engine) (t v : ℕ) → LooksNow (txn_in m.txns.cores t).level → is_replaced t (version_at m.store v) ≡ true → IsIdle m t v
+replaced_idle m t v now replaced =
+    let x = version_at m.store v in
+    record {
+      hidden = hidden-replaced m.txns.cores t (looks m t) x.begin x.end replaced;
+      claims = claim_shown m t v x.begin false refl (sym (unclaimed-replaced m.txns.cores t (looks m t) (txn_in m.txns.cores t).level x.begin x.end now replaced));
+    }
+
 -- the living versions of a key suffice for a transaction that looks at the clock
-pub living_enough : (m : Engine) (t key : ℕ) (vs : List ℕ) → StandsForSome m → LooksNow (txn_in m.txns.cores t).level → IsLiving m.store.versions key m.clock vs → AreEnough m t key vs
+pub living_enough : (m : Engine) (t key : ℕ) (vs : List ℕ) → StandsForSome m → LooksNow (txn_in m.txns.cores t).level → IsLiving m.store.versions key (is_gone (Some t) m.clock) vs → AreEnough m t key vs
 living_enough m t key vs o now living =
     enough_without m t key vs (λ v. not (nat_lt v living.from)) o living.left
-    (λ v l k n. over_idle m t v o now (living.over v (before v living.from n) l k))
+    (λ v l k n. idle v (living.over v (before v living.from n) l k))
   where
     before : (v from : ℕ) → not (nat_lt v from) ≡ false → v < from
     before v from n = ⊎_elim (λ (l : v < from). l) (λ (g : from ≤ v). absurd (false≢true (sym n ∙ ap not (le-ltb v from g)))) (cases_lt v from)
+
+    idle : (v : ℕ) → is_gone (Some t) m.clock (version_at m.store v) ≡ true → IsIdle m t v
+    idle v gone =
+        ⊎_elim (λ over. over_idle m t v o now over) (λ replaced. replaced_idle m t v now replaced)
+        (or_cases (is_over m.clock (version_at m.store v)) (is_replaced t (version_at m.store v)) gone)
 
 pub now_by_level : (level found : Level) → found ≡ level → (found ≡ Serializable) ⊎ (found ≡ Repeatable) → LooksNow level
 now_by_level level found same which =

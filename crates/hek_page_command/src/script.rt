@@ -163,7 +163,11 @@ function shortVerdict({ verdict, names, ends }) { const out = names.filter((name
 function samePlace(from, position, to) { if (position > from.columns.length) return to.columns.length + 1; if (to === from || position === 0) return position;
   if (position === from.columns.length) return to.columns.length;
   return to.columns.findLastIndex((it) => !it.isLate && it.place <= from.columns[position - 1].place) + 1; }
-return { storyOf, verdictKind, VERDICTS, shortVerdict, samePlace }; })(); Story.layout = (() => { const { wide } = Story.text;
+function stepAfter({ columns }, moves) {
+  const isEnd = moves > columns.length, own = columns.slice(0, moves).filter(({ steps }) => steps.length).slice(isEnd ? 0 : -1), next = columns.slice(moves);
+  return Math.min(Math.max(0, ...own.flatMap(({ steps }) => steps)), ...next.flatMap(({ steps }) => steps.map((it) => it - 1))); }
+const movesAt = ({ columns }, step) => columns.findLastIndex(({ steps }) => steps.some((it) => it <= step)) + 1;
+return { storyOf, verdictKind, VERDICTS, shortVerdict, samePlace, stepAfter, movesAt }; })(); Story.layout = (() => { const { wide } = Story.text;
 const { L, M, S, XL, clamp } = Story.svg; function wordsOf(column) { const { kind, key, value } = column; switch (kind) {
     case "read": return { tops: [`read ${key}`, `r ${key}`, `${key}`], value: value ?? "–" };
     case "scan": return { tops: [`scan ${column.bucket ?? ""}`, "scan"], value: column.rows.map(([row, its]) => `${row}=${its}`).join(" ") || "–" };
@@ -314,8 +318,9 @@ const height = (story, at) => at.top + at.row * (story.tracks.length + story.alw
   return svg(at.gutter, height(story, at), "rows", (story.views.length ? text(2, at.u, S * u, "row", "soft", "start") : "") + rows.join("") + always.join("")); }
 function valuesOf({ segments }, at, now, till) { const size = M * at.u; let before = 0;
   return segments.filter(({ t, from }) => t === null || from < now).map(({ from, to, value, t }) => {
-    const isOpening = t === null, x = isOpening ? 0 : at.mid(from), w = till(0, to) - x || at.pad, words = value ?? NONE, own = wide(words, size, 700), room = Math.max(w - (isOpening ? 6 : 10), at.pad - 8);
-    const isLeft = !isOpening && to === null && own > w - 10 && own + 8 < x - before, low = isLeft ? x - 4 - own : x + (isOpening ? 5 : 9);
+    const isOpening = t === null, isLast = to === null || to >= now, x = isOpening ? 0 : at.mid(from), w = till(0, to) - x || at.pad, words = value ?? NONE, own = wide(words, size, 700);
+    const room = Math.max((isLast ? at.w - x : w) - (isOpening ? 6 : 10), at.pad - 8);
+    const isLeft = !isOpening && isLast && own > room && own + 8 < x - before, low = isLeft ? x - 4 - own : x + (isOpening ? 5 : 9);
     before = x + Math.min(own, room) + 12;
     return { x, w, t, isLeft, words, said: isLeft ? words : cut(words, room, size, 700), low, high: low + (isLeft ? own : Math.min(own, room)) }; }); }
 const overBar = (at) => at.row - 1.19 * at.u; function track(it, at, y, now, till) {
@@ -324,8 +329,10 @@ const overBar = (at) => at.row - 1.19 * at.u; function track(it, at, y, now, til
     parts.push(rect(x, y + bar, Math.max(w, isOpening ? at.pad - 4 : 2) - 1, at.row - bar - 0.05 * u, isOpening ? "seg" : `tint f${colour(t)}`, 2));
     if (!isOpening) parts.push(rect(x, y + bar, 4, at.row - bar - 0.05 * u, `f${colour(t)}`));
     parts.push(`<g>${title(words)}${text(isLeft ? high : low, base, M * u, said, `b ${isOpening ? "" : `f${colour(t)}`}`, isLeft ? "end" : "start")}</g>`); }
-  for (const { t, from, to, value, end } of pending) { if (from >= now) continue; const x = at.mid(from), until = till(0, to), w = Math.max(until - x, 2) - 2;
-    parts.push(rect(x, y + 0.06 * u, w, bar - 0.1 * u, `pend s${colour(t)}`, 2), text(x + 4, y + bar - 0.14 * u, S * u, cut(value ?? NONE, Math.max(w - 4, at.width(from) / 2), S * u), `f${colour(t)}`, "start"));
+  for (const { t, from, to, value, end } of pending) { if (from >= now) continue;
+    const x = at.mid(from), until = till(0, to), w = Math.max(until - x, 2) - 2, isOpen = (to === null || to >= now) && !pending.some((other) => other.from > from && other.from < now);
+    const room = Math.max(isOpen ? at.w - x - 6 : w - 4, at.width(from) / 2);
+    parts.push(rect(x, y + 0.06 * u, w, bar - 0.1 * u, `pend s${colour(t)}`, 2), text(x + 4, y + bar - 0.14 * u, S * u, cut(value ?? NONE, room, S * u), `f${colour(t)}`, "start"));
     if (end === "abort" && to < now) parts.push(text(until + 1, y + bar - 0.12 * u, S * u, "✗", "b badt", "start")); }
   return parts.join(""); }
 function looks(story, at, now, views) { const column = story.columns[now - 1], { u } = at; if (column?.kind !== "read") return "";
@@ -357,7 +364,7 @@ function tracks(story, at, step) {
   parts.push(looking(story, at, views, story.tracks.map((it) => valuesOf(it, at, now, till))));
   story.always.forEach((it, index) => parts.push(always(it, at, at.top + at.row * (story.tracks.length + index) + 0.35 * at.u, now, right)));
   return svg(at.w, low + 4, `Rows after ${now} moves`, parts.join("")); }
-return { keys, tracks }; })(); Story.cards = (() => { const { esc, grouped, wide } = Story.text;
+return { keys, tracks }; })(); Story.cards = (() => { const { cut, esc, grouped, wide } = Story.text;
 const { DEFS, S, colour, path, r1, rect, svg, text, title } = Story.svg; const { VERDICTS, verdictKind } = Story.story; const NONE = "–";
 function mini(story, w, h, u) {
   const count = Math.max(story.columns.length, 1), column = w / count, lane = h / story.names.length, high = lane * 0.8, y = (t) => t * lane + lane * 0.1, size = Math.min(S * u, high * 0.9);
@@ -384,19 +391,23 @@ const sorted = (outcomes) => [...outcomes].sort((one, other) => isBroken(other) 
 const rowsOf = ({ rows }) => rows.map(([key, value]) => `${key}=${value}`).join(" "); function saidOutcome(outcome, { orders }) {
   const ends = outcome.ends.map(({ txn, end }) => `${txn} ${end}`).join(", "), broken = outcome.breaks ? `; breaks line ${outcome.breaks}` : "";
   return `${grouped(outcome.orders)} of ${grouped(orders)} orders: ${ends}; ${rowsOf(outcome)}; ${VERDICTS[verdictKind(outcome.verdict)]}${broken}`; }
-const BAR = 1.45; function bars(counted, names, w, u, isHere = () => false) {
+const BAR = 1.45; function namesIn(names, widthOf, room, rest) {
+  const sum = (all) => all.reduce((so, it) => so + widthOf(it), 0), cuts = names.map((name) => (name.length > 3 ? `${name.slice(0, 2)}.` : name));
+  if (sum(names) <= 0.4 * room) return names; return sum(cuts) + rest <= room ? cuts : names.map(() => ""); }
+const marked = (name, mark) => `${name} ${mark}`.trim(); function bars(counted, names, w, u, isHere = () => false) {
   const size = S * u, high = BAR * u, all = sorted(counted.outcomes), most = Math.max(...all.map((it) => it.orders)), alike = new Set(all.map((it) => it.ends.map(({ end }) => end).join())).size < all.length;
-  const short = names.join("").length > 6 ? names.map((name) => name.slice(0, 2)) : names, widths = short.map((name) => wide(`${name} ✓`, size, 700) + 0.45 * u), left = widths.reduce((sum, it) => sum + it, 0.4 * u);
   const isOther = (outcome) => verdictKind(outcome.verdict) === "other", countOf = (outcome) => `${isBroken(outcome) ? "✗ " : ""}${grouped(outcome.orders)}`;
+  const widthOf = (name) => wide(marked(name, "✓"), size, 700) + 0.45 * u, counts = Math.max(...all.map((it) => wide(countOf(it), size, 700))), short = namesIn(names, widthOf, w, counts + 1.9 * u);
+  const widths = short.map(widthOf), left = widths.reduce((sum, it) => sum + it, 0.4 * u);
   const afterOf = (outcome) => isBroken(outcome) || isOther(outcome) ? "" : alike ? rowsOf(outcome) : outcome.ends.find(({ end }) => end !== "committed")?.end.replace("aborted ", "") ?? "";
   const mostOf = (outcome) => (w - left - wide(countOf(outcome), size, 700) - wide(afterOf(outcome), size) - 0.9 * u) * most / outcome.orders;
-  const room = Math.max(2 * u, Math.min((w - left - wide(`✗ ${grouped(most)}`, size, 700)) * 0.5, ...all.map(mostOf).filter((it) => it >= 2 * u)));
+  const room = Math.max(Math.min(2 * u, w - left - counts - 0.5 * u), Math.min((w - left - wide(`✗ ${grouped(most)}`, size, 700)) * 0.5, ...all.map(mostOf).filter((it) => it >= 2 * u)));
   return svg(w, high * all.length, "outcomes of all orders", DEFS + all.map((outcome, index) => {
     const y = index * high, base = y + 1.02 * u, bad = isBroken(outcome), length = Math.max(2, room * outcome.orders / most), words = saidOutcome(outcome, counted), after = afterOf(outcome), count = countOf(outcome);
     const x = left + length + 0.3 * u, next = x + wide(count, size, 700) + 0.5 * u;
-    const marks = outcome.ends.map(({ end }, t) => text(0.2 * u + widths.slice(0, t).reduce((sum, it) => sum + it, 0), base, size, `${short[t]} ${end === "committed" ? "✓" : "✗"}`, end === "committed" ? `b f${colour(t)}` : "badt", "start"));
+    const marks = outcome.ends.map(({ end }, t) => text(0.2 * u + widths.slice(0, t).reduce((sum, it) => sum + it, 0), base, size, marked(short[t], end === "committed" ? "✓" : "✗"), end === "committed" ? `b f${colour(t)}` : "badt", "start"));
     return `<g data-order="${esc(outcome.first?.join(" ") ?? "")}" role="button" tabindex="0" aria-label="${esc(words)}">${title(words)}${rect(0, y, w, high - 1, isHere(outcome) ? "band" : "chip", 3)}${marks.join("")}` +
-      rect(left, y + 0.28 * u, length, 0.85 * u, bad ? "bad" : isOther(outcome) ? "hatch" : "slate", 2) + text(x, base, size, count, `b ${bad ? "badt" : ""}`, "start") +
+      rect(left, y + 0.28 * u, length, 0.85 * u, bad ? "bad" : isOther(outcome) ? "hatch" : "slate", 2) + text(x, base, size, cut(count, w - x, size, 700), `b ${bad ? "badt" : ""}`, "start") +
       (wide(after, size) <= w - next ? text(next, base, size, after, "soft", "start") : "") + "</g>"; }).join(""), "group"); }
 const hasOutcome = (story) => (outcome) => verdictKind(outcome.verdict) === story.verdict.kind && outcome.ends.every(({ end }, t) => end === endOf(story, t)) &&
   outcome.rows.every(([key, value]) => story.tracks.find((it) => it.key === key)?.segments.at(-1).value === value); function endOf({ ends, columns }, t) {
@@ -533,7 +544,8 @@ function told(model, story, { level }, hidesAfter = Infinity) { const end = stor
   const tell = (position, html) => (position > hidesAfter ? "" : `<div class="tell" data-step="${position}">${html}</div>${beside(position)}`);
   const moves = story.columns.map((it, index) => tell(index + 1, `<p><b>${index + 1}</b> ${rich(sentences([it.say, it.why]), story.names)}</p>`));
   const { verdict } = story, said = `<p><b>${rich(verdict.say, story.names)}.</b> ${rich([verdict.tail, ...verdict.edges.map((it) => it.say)].filter(Boolean).join(" "), story.names)}</p>`;
-  return tell(0, model.intro ?? `<p>${esc(model.about)}</p>${model.question ? `<p class="ask">${esc(model.question)}</p>` : ""}`) + moves.join("") + tell(end, said) + (hidesAfter < end ? "" : model.after ?? ""); }
+  const paragraph = (words, kind) => (words ? `<p class="${kind}">${esc(words)}</p>` : "");
+  return tell(0, model.intro ?? paragraph(model.about, "about") + paragraph(model.question, "ask")) + moves.join("") + tell(end, said) + (hidesAfter < end ? "" : model.after ?? ""); }
 const lines = (story) => [...story.columns.map((it, index) => `${index + 1}. ${plain(sentences([it.say, it.why]))}`), `${plain(story.verdict.say)}.`].join("\n");
 return { WRITTEN, positionOf, sentence, sentenceRoom, stage, compared, legend, cards, told, lines }; })(); Story.ask = (() => {
 const { VERDICTS } = Story.story; const { esc, plain, rich } = Story.text; const named = (name) => `{${name}}`;
@@ -693,7 +705,7 @@ function showText(element, text, story, step) {
   const here = element.querySelector(".here, .broken") ?? (step === 0 ? element.firstElementChild : null);
   if (here) element.scrollTop = here.offsetTop - element.offsetTop - element.clientHeight / 2; }
 return { Player, showText }; })(); Story.page = (() => { const { Player, showText } = Story.player; const { playOfLog } = Story.log;
-const { storyOf } = Story.story; const { WRITTEN } = Story.view; const LEVELS = ["serializable", "repeatable", "snapshot"];
+const { movesAt, stepAfter, storyOf } = Story.story; const { WRITTEN } = Story.view; const LEVELS = ["serializable", "repeatable", "snapshot"];
 const byId = (id) => document.getElementById(id); const wordOf = (level) => (level === WRITTEN ? "written" : level);
 const same = (one, other) => one.join(" ") === other.join(" ");
 const levelOf = ({ level, levels }) => level ?? (new Set(levels).size === 1 ? levels[0] : WRITTEN); function outcomesOf(rows) { if (!rows.length) return {};
@@ -725,9 +737,9 @@ class StoryPage { constructor(sheet, objects, panels) { Object.assign(this, { sh
     if (isEntry) try { history.pushState({ depth: (history.state?.depth ?? 0) + 1 }, "", this.address()); } catch {}
     if (order && this.has(order)) this.order = order; this.place = { ...this.place, ...rest }; this.show(options); this.write(); return undefined; }
   openMachine() { if (!this.panels || this.isLog) return; document.documentElement.classList.remove("told");
-    this.panels.open(Math.max(0, ...this.player.story.columns.slice(0, this.place.step).flatMap((it) => it.steps))); }
-  close(step) { this.place = { ...this.place, mode: "", step: this.player.story.columns.filter((it) => it.steps.some((other) => other <= step)).length };
-    this.show(); this.write(); }
+    this.opened = stepAfter(this.player.story, this.place.step); this.panels.open(this.opened); }
+  close(step) { this.place = { ...this.place, mode: "", step: step === this.opened ? this.place.step : movesAt(this.player.story, step) }; this.show();
+    this.write(); }
   address() {
     const { level, step } = this.place, isOwn = same(this.order, this.own.order ?? []), order = isOwn ? "" : `/${this.order.join(".")}`, front = isOwn && level === levelOf(this.own) ? "" : `${wordOf(level)}${order}`;
     return `#${front}${step || front ? `@${step}` : ""}`; }
@@ -2526,7 +2538,7 @@ pub(crate) const SCRIPT_FOURTH: &str = r##"  });
   $("path").hidden = false;
   $("path").innerHTML = `<button type="button" data-crumb="0"${place === 0 ? ' aria-current="true"' : ""}>start</button>${crumbs.map((it) => `<span aria-hidden="true">\u203a</span>${it}`).join("")}<span class="space"></span><button type="button" data-do="undo"${place === 0 ? " disabled" : ""} title="Backspace">\u21b6 undo</button>`;
   const current = $("path").querySelector('[aria-current="true"]');
-  if (current) $("path").scrollLeft = Math.max(0, current.offsetLeft - $("path").clientWidth * 0.6);
+  if (current) $("path").scrollLeft = Math.max(0, current.offsetLeft - $("path").clientWidth * 0.4);
   // the choices
   const whole = node.next.length === 0;
   const reach = total(node.counts);
@@ -3023,12 +3035,12 @@ function onKey(event) {
   else if (key in MOVES) (MOVES[key] > 0 ? on : back)();
   else if (key === "Home") jump(0);
   else if (key === "End") jump(run.last);
-  else if (key === "Escape") { digits = ""; if (pinned) { pinned = null; show(); } }
+  else if (key === "Escape" && (digits || pinned)) { digits = ""; DOES.unpin(); }
   else if (key === "Backspace" && isTree) DOES.undo();
   else if (/^\d$/.test(key)) onDigit(key);
   else if (key === "Enter" && digits) { jump(Number(digits) - run.done); digits = ""; }
   else if (key === "Enter" && event.target.closest("g[tabindex]")) event.target.dispatchEvent(new MouseEvent("click", { bubbles: true }));
-  else if (key in LETTERS) DOES[LETTERS[key]]();
+  else if (key in LETTERS && (key !== "m" || storyPage)) DOES[LETTERS[key]]();
   else { tellKey(event); return; }
   event.preventDefault();
 }
@@ -3102,8 +3114,8 @@ function tellParent(went = false) {
   parent.postMessage({ hek: "place", place: placeSaid(), modes: modesNow(), isBlank: !$("blank").hidden, guesses, isOver: isTree && isWhole() && here === run.last, went }, "*");
 }
 
-/** A key that means nothing here is one for the page around this one. */
-function tellKey({ key }) { if (isFramed && isWatched) parent.postMessage({ hek: "key", key }, "*"); }
+/** A key that means nothing here is one for the page around this one, if that hasn't sent it. */
+function tellKey({ key }) { if (isFramed && isWatched && !isGoing) parent.postMessage({ hek: "key", key }, "*"); }
 
 /** The page around this one is printed in its place. */
 function tellPrint(event) {

@@ -79,6 +79,7 @@ pub(crate) const STYLE: &str = r#"/* Written by tools/assets. */
 #st-prose .ask { font-weight: 700; }
 #st-prose .tell { border-left: 4px solid transparent; margin: 0 -1.1rem 0.35rem; padding: 0.1rem 1.1rem 0.1rem calc(1.1rem - 4px); color: var(--soft); cursor: pointer; }
 #st-prose .tell > p { margin: 0; }
+#st-prose .tell:empty { display: none; }
 #st-prose .tell.here { border-color: var(--ink); background: var(--band); color: var(--ink); }
 #st-prose .aside { margin: 0.3rem 0 0.9rem; }
 #st-prose.asks details { display: none; }
@@ -113,7 +114,7 @@ html.far main { grid-template-columns: minmax(0, 1fr); grid-template-rows: auto 
 html.far body:not(.tree) #say { height: 6.4rem !important; } html.far body:not(.tree) #say:not(.asks) { grid-template-columns: minmax(0, 1fr); }
 html.present .sub { display: none; } html.present .legend { margin-left: 0; }
 html, body { overscroll-behavior-x: none; touch-action: pan-y pinch-zoom; }
-* { box-sizing: border-box; }
+* { box-sizing: border-box; scrollbar-color: var(--soft) var(--track); }
 body { margin: 0; height: 100vh; height: 100dvh; display: flex; flex-direction: column; overflow: hidden; background: var(--bg); color: var(--ink);
   font-family: "Segoe UI", -apple-system, "Helvetica Neue", Roboto, "Noto Sans", "Liberation Sans", Arial, sans-serif; font-size: 1rem; line-height: 1.3; }
 button, input, kbd, code { font: inherit; }
@@ -310,6 +311,7 @@ kbd { display: inline-block; min-width: 1.5em; text-align: center; border: 1px s
 .foldtext, .infinity { font-size: 0.98rem; fill: var(--soft); } .folded.moved + text, .whole.moved + text { fill: var(--moved-ink); }
 #path { display: flex; align-items: center; gap: 0.3rem; overflow-x: auto; white-space: nowrap; padding: 0.25rem 0; scrollbar-width: thin; }
 #path button { padding: 0.05rem 0.5rem; } #path [aria-current] { background: var(--here); color: var(--here-ink); font-weight: 700; }
+#path [data-do="undo"] { position: sticky; right: 0; }
 #path button.ahead { border-style: dashed; opacity: 0.8; }
 .moves { display: grid; gap: 0.3rem; } .whose { font-size: 1.05rem; font-weight: 700; }
 .tree #say { grid-template-columns: minmax(0, 1.2fr) minmax(0, 1fr); height: 9.1rem; } .pick { display: grid; grid-template-columns: repeat(var(--n), minmax(0, 1fr)); gap: 0.5rem; } .pick[style="--n:3"] .choice { font-size: 1rem; padding-left: 0.45rem; padding-right: 0.45rem; column-gap: 0.4rem; }

@@ -1,4 +1,4 @@
--- The starts of slots: versions before a start are over, and a chain from a start on has the places from there on.
+-- The starts of slots: versions before a start are gone, and a chain from a start on has the places from there on.
 use Rattle.std.proofs.Common.{◌≡◌, ℕ, zero, suc, ◌+◌, ◌-◌, ◌%◌, ◌<◌, ◌≤◌, ◌≢◌, Bool, true, false, if◌then◌else◌, ◌==◌, List, [], ◌∷◌, ◌++◌, length, slice_index_or, slice_set, refl, sym, ap, subst, ◌∙◌, ⊎_elim, arith, eqb-true, eq-eqb, get_or-set_same, get_or-set_other, length-set, length-append}
 use Rattle.std.specs.Prelude.{filter, not, nat_lt, Option, Some, None}
 use Rattle.std.proofs.Math.Seq.{get_or-append_seam}
@@ -9,7 +9,7 @@ use Rattle.hek_rules.specs.Words.{infinity, begin_time, end_time}
 use Rattle.hek_store.specs.declared.version.Version.{Version}
 use Rattle.hek_store.specs.Stored.{places, no_version, of_key}
 use Rattle.hek_store.specs.Chained.{keys_of, first_link, next_links, chain}
-use Rattle.hek_store.specs.Living.{is_over_by, is_over, place_of, IsStart, IsLiving}
+use Rattle.hek_store.specs.Living.{is_over_by, is_over, is_replaced, is_gone, place_of, IsStart, IsLiving}
 use Rattle.hek_store.specs.Places.{left}
 use Rattle.hek_store.proofs.Linked.{first-within, first-after, length_next, next-after, next_are_links, chain_places, chain_none, chain-here, chain-there}
 use Rattle.hek_store.proofs.Found.{length_keys, filter-places}
@@ -84,7 +84,7 @@ place-within count (suc link) h = omega (arith, h)
 
 -- ---- starts
 
--- a start for a time is one for any later time
+-- what is over is so at any later time
 over-by : (time later : ℕ) (from until : Option ℕ) → time ≤ later → is_over_by time from until ≡ true → is_over_by later from until ≡ true
 over-by time later None until h o = o
 over-by time later (Some from) None h o = o
@@ -98,16 +98,29 @@ over-by time later (Some from) (Some until) h o =
 over-later : (time later : ℕ) (x : Version) → time ≤ later → is_over time x ≡ true → is_over later x ≡ true
 over-later time later x h o = over-by time later (begin_time x.begin) (end_time x.end) h o
 
-pub start_later : (slots slot time later : ℕ) (vs : List Version) (link : ℕ) → time ≤ later → IsStart slots slot time vs link → IsStart slots slot later vs link
-start_later slots slot time later vs link h s = record {
+-- what is over is gone for each reader, now and later
+pub gone_later : (reader : Option ℕ) (time later : ℕ) (x : Version) → time ≤ later → is_gone reader time x ≡ true → is_gone reader later x ≡ true
+gone_later None time later x h o = over-later time later x h o
+gone_later (Some t) time later x h o =
+    ⊎_elim
+    (λ over. or_left (is_over later x) (is_replaced t x) (over-later time later x h over))
+    (λ replaced. or_right (is_over later x) (is_replaced t x) replaced)
+    (or_cases (is_over time x) (is_replaced t x) o)
+
+pub over_gone : (t time : ℕ) (x : Version) → is_gone None time x ≡ true → is_gone (Some t) time x ≡ true
+over_gone t time x o = or_left (is_over time x) (is_replaced t x) o
+
+pub start_later : (slots slot : ℕ) (gone later : Version → Bool) (vs : List Version) (link : ℕ) → ((x : Version) → gone x ≡ true → later x ≡ true) →
+    IsStart slots slot gone vs link → IsStart slots slot later vs link
+start_later slots slot gone later vs link h s = record {
   within = s.within;
   in_slot = s.in_slot;
-  over = λ v before l same. over-later time later (slice_index_or vs v no_version) h (s.over v before l same);
+  over = λ v before l same. h (slice_index_or vs v no_version) (s.over v before l same);
 }
 
 -- the first link of a slot is a start
-pub start_first : (slots slot time : ℕ) (vs : List Version) (link : ℕ) → link ≡ first_link (λ k. k % slots == slot) 0 (keys_of vs) → IsStart slots slot time vs link
-start_first slots slot time vs link is =
+pub start_first : (slots slot : ℕ) (gone : Version → Bool) (vs : List Version) (link : ℕ) → link ≡ first_link (λ k. k % slots == slot) 0 (keys_of vs) → IsStart slots slot gone vs link
+start_first slots slot gone vs link is =
     let test : ℕ → Bool = λ k. k % slots == slot in
     let long = length_keys vs in
     record {
@@ -122,10 +135,10 @@ start_first slots slot time vs link is =
           absurd (both_ways (test (slice_index_or (keys_of vs) v 0)) miss hit);
     }
 
--- the link after a version that is over is a start
-pub start_next : (slots slot time : ℕ) (vs : List Version) (links : List ℕ) (link : ℕ) → links ≡ next_links (λ k. k % slots) 0 (keys_of vs) → 0 < link →
-    is_over time (slice_index_or vs (link - 1) no_version) ≡ true → IsStart slots slot time vs link → IsStart slots slot time vs (slice_index_or links (link - 1) 0)
-start_next slots slot time vs links link linked some over s =
+-- the link after a version that is gone is a start
+pub start_next : (slots slot : ℕ) (gone : Version → Bool) (vs : List Version) (links : List ℕ) (link : ℕ) → links ≡ next_links (λ k. k % slots) 0 (keys_of vs) → 0 < link →
+    gone (slice_index_or vs (link - 1) no_version) ≡ true → IsStart slots slot gone vs link → IsStart slots slot gone vs (slice_index_or links (link - 1) 0)
+start_next slots slot gone vs links link linked some over s =
     let class : ℕ → ℕ = λ k. k % slots in
     let keys = keys_of vs in
     let p = link - 1 in
@@ -141,7 +154,7 @@ start_next slots slot time vs links link linked some over s =
       in_slot = λ q. ap class (sym (key-at vs (next - 1))) ∙ next-hit class 0 p (next - 1) keys there (sym is ∙ omega (arith, q)) ∙ mine;
       over = λ v before l same.
           ⊎_elim
-          (λ e. subst (λ u. is_over time (slice_index_or vs u no_version) ≡ true) (sym e) over)
+          (λ e. subst (λ u. gone (slice_index_or vs u no_version) ≡ true) (sym e) over)
           (λ h. ⊎_elim
           (λ less. let at = place-at (length vs) link some in s.over v (omega (arith, at, less)) l same)
           (λ more. let miss = next-miss class 0 p v keys more (omega (arith, l, long))
@@ -154,8 +167,8 @@ start_next slots slot time vs links link linked some over s =
 
 -- ---- a start after another version is added, or one at a place changes
 
-pub start_more : (slots slot time : ℕ) (vs : List Version) (x : Version) (link : ℕ) → (link ≡ 0 → x.key % slots ≢ slot) → IsStart slots slot time vs link → IsStart slots slot time (vs ++ x ∷ []) link
-start_more slots slot time vs x link none s =
+pub start_more : (slots slot : ℕ) (gone : Version → Bool) (vs : List Version) (x : Version) (link : ℕ) → (link ≡ 0 → x.key % slots ≢ slot) → IsStart slots slot gone vs link → IsStart slots slot gone (vs ++ x ∷ []) link
+start_more slots slot gone vs x link none s =
     let long : length (vs ++ x ∷ []) ≡ length vs + 1 = length-append vs (x ∷ []) in
     let within = s.within in
     let old : (v : ℕ) → v < length vs → slice_index_or (vs ++ x ∷ []) v no_version ≡ slice_index_or vs v no_version = λ v l. get_or_append_left vs (x ∷ []) no_version v l in
@@ -165,7 +178,7 @@ start_more slots slot time vs x link none s =
       over = λ v before l same.
           ⊎_elim
           (λ less. let is = old v less in
-          ap (is_over time) is ∙ s.over v (before-more (length vs) (length (vs ++ x ∷ [])) link v less before) less (sym (ap (λ y. y.key % slots) is) ∙ same))
+          ap gone is ∙ s.over v (before-more (length vs) (length (vs ++ x ∷ [])) link v less before) less (sym (ap (λ y. y.key % slots) is) ∙ same))
           (λ far. let last : v ≡ length vs = omega (arith, l, long, far) in
           let new : slice_index_or (vs ++ x ∷ []) v no_version ≡ x = ap (λ u. slice_index_or (vs ++ x ∷ []) u no_version) last ∙ get_or-append_seam vs x [] no_version in
           absurd (none (no-link link v (length (vs ++ x ∷ [])) (length vs) within before far) (sym (ap (λ y. y.key % slots) new) ∙ same)))
@@ -181,8 +194,8 @@ start_more slots slot time vs x link none s =
     no-link (suc link) v more count w h l = absurd (omega (arith, w, h, l))
 
 -- a slot whose versions are all passed over starts at the new version
-pub start_new : (slots slot time : ℕ) (vs : List Version) (x : Version) → x.key % slots ≡ slot → IsStart slots slot time vs 0 → IsStart slots slot time (vs ++ x ∷ []) (length vs + 1)
-start_new slots slot time vs x hit s =
+pub start_new : (slots slot : ℕ) (gone : Version → Bool) (vs : List Version) (x : Version) → x.key % slots ≡ slot → IsStart slots slot gone vs 0 → IsStart slots slot gone (vs ++ x ∷ []) (length vs + 1)
+start_new slots slot gone vs x hit s =
     let long : length (vs ++ x ∷ []) ≡ length vs + 1 = length-append vs (x ∷ []) in
     let old : (v : ℕ) → v < length vs → slice_index_or (vs ++ x ∷ []) v no_version ≡ slice_index_or vs v no_version = λ v l. get_or_append_left vs (x ∷ []) no_version v l in
     record {
@@ -194,12 +207,12 @@ start_new slots slot time vs x hit s =
           let less = place-before (length (vs ++ x ∷ [])) (length vs + 1) v before (omega arith) in
           let within : v < length vs = omega (arith, less) in
           let is = old v within in
-          ap (is_over time) is ∙ s.over v within within (sym (ap (λ y. y.key % slots) is) ∙ same);
+          ap gone is ∙ s.over v within within (sym (ap (λ y. y.key % slots) is) ∙ same);
     }
 
-pub start_set : (slots slot time : ℕ) (vs : List Version) (link u : ℕ) (x : Version) → u < length vs → x.key ≡ (slice_index_or vs u no_version).key →
-    (x.key % slots ≡ slot → is_over time (slice_index_or vs u no_version) ≡ true → is_over time x ≡ true) → IsStart slots slot time vs link → IsStart slots slot time (slice_set vs u x) link
-start_set slots slot time vs link u x there key over s =
+pub start_set : (slots slot : ℕ) (gone : Version → Bool) (vs : List Version) (link u : ℕ) (x : Version) → u < length vs → x.key ≡ (slice_index_or vs u no_version).key →
+    (x.key % slots ≡ slot → gone (slice_index_or vs u no_version) ≡ true → gone x ≡ true) → IsStart slots slot gone vs link → IsStart slots slot gone (slice_set vs u x) link
+start_set slots slot gone vs link u x there key over s =
     let long : length (slice_set vs u x) ≡ length vs = length-set vs u x in
     let keyed : (v : ℕ) → (slice_index_or (slice_set vs u x) v no_version).key ≡ (slice_index_or vs v no_version).key =
     λ v. ⊎_elim
@@ -210,14 +223,14 @@ start_set slots slot time vs link u x there key over s =
       within = let within = s.within in omega (arith, long, within);
       in_slot = λ p. ap (λ k. k % slots) (keyed (link - 1)) ∙ s.in_slot p;
       over = λ v before l same.
-          let was : is_over time (slice_index_or vs v no_version) ≡ true =
+          let was : gone (slice_index_or vs v no_version) ≡ true =
           s.over v (subst (λ n. v < place_of n link) long before) (omega (arith, l, long)) (sym (ap (λ k. k % slots) (keyed v)) ∙ same) in
           ⊎_elim
-          (λ e. ap (λ w. is_over time (slice_index_or (slice_set vs u x) w no_version)) e
-          ∙ ap (is_over time) (get_or-set_same vs u x no_version there)
+          (λ e. ap (λ w. gone (slice_index_or (slice_set vs u x) w no_version)) e
+          ∙ ap gone (get_or-set_same vs u x no_version there)
           ∙ over (ap (λ k. k % slots) key ∙ ap (λ w. (slice_index_or vs w no_version).key % slots) (sym e) ∙ sym (ap (λ k. k % slots) (keyed v)) ∙ same)
-          (ap (λ w. is_over time (slice_index_or vs w no_version)) (sym e) ∙ was))
-          (λ other. ap (is_over time) (get_or-set_other vs u v x no_version other) ∙ was)
+          (ap (λ w. gone (slice_index_or vs w no_version)) (sym e) ∙ was))
+          (λ other. ap gone (get_or-set_other vs u v x no_version other) ∙ was)
           (cases_eq v u);
     }
 
@@ -269,10 +282,10 @@ chain-from class c i (suc p) (x ∷ xs) l is =
     ∙ ap (λ m. filter (λ v. not (nat_lt v m)) ps) (sym from)
     ∙ sym (first-left (i + suc p) i (test x) ps (omega arith))
 
-start_chain : (slots slot time : ℕ) (vs : List Version) (links : List ℕ) (link : ℕ) → links ≡ next_links (λ k. k % slots) 0 (keys_of vs) → IsStart slots slot time vs link →
+start_chain : (slots slot : ℕ) (gone : Version → Bool) (vs : List Version) (links : List ℕ) (link : ℕ) → links ≡ next_links (λ k. k % slots) 0 (keys_of vs) → IsStart slots slot gone vs link →
     chain 0 links link ≡ filter (λ v. not (nat_lt v (place_of (length vs) link))) (places (λ x. x.key % slots == slot) 0 vs)
-start_chain slots slot time vs links zero linked s = chain_none 0 links ∙ sym (none-left (λ x. x.key % slots == slot) (length vs) 0 vs (omega arith))
-start_chain slots slot time vs links (suc p) linked s =
+start_chain slots slot gone vs links zero linked s = chain_none 0 links ∙ sym (none-left (λ x. x.key % slots == slot) (length vs) 0 vs (omega arith))
+start_chain slots slot gone vs links (suc p) linked s =
     let class : ℕ → ℕ = λ k. k % slots in
     let link : suc p ≡ 0 + p + 1 = omega arith in
     let back : p ≡ suc p - 1 = omega arith in
@@ -306,24 +319,24 @@ filter-swap f g (x ∷ xs) =
     miss h ys e = cond-false (h x) (x ∷ filter h ys) (filter h ys) e
 
 -- the versions listed from a start on are the living ones
-pub living_from : (slots key time : ℕ) (vs : List Version) (links : List ℕ) (link : ℕ) (listed : List ℕ) → links ≡ next_links (λ k. k % slots) 0 (keys_of vs) →
-    IsStart slots (key % slots) time vs link → listed ≡ left vs key links link → IsLiving vs key time listed
-living_from slots key time vs links link listed linked s is =
+pub living_from : (slots key : ℕ) (gone : Version → Bool) (vs : List Version) (links : List ℕ) (link : ℕ) (listed : List ℕ) → links ≡ next_links (λ k. k % slots) 0 (keys_of vs) →
+    IsStart slots (key % slots) gone vs link → listed ≡ left vs key links link → IsLiving vs key gone listed
+living_from slots key gone vs links link listed linked s is =
     let test : ℕ → Bool = λ v. (slice_index_or vs v no_version).key == key in
     let far : ℕ → Bool = λ v. not (nat_lt v (place_of (length vs) link)) in
     let ps = places (λ x. x.key % slots == key % slots) 0 vs in
     record {
       from = place_of (length vs) link;
       left = is
-          ∙ ap (filter test) (start_chain slots (key % slots) time vs links link linked s)
+          ∙ ap (filter test) (start_chain slots (key % slots) gone vs links link linked s)
           ∙ filter-swap test far ps
           ∙ ap (filter far) (filter-places test (λ k. k % slots) key 0 vs (λ p l. let here : 0 + p ≡ p = omega arith in ap test here));
       over = λ v before l same. s.over v before l (ap (λ k. k % slots) same);
     }
 
 -- all versions of a key are living ones, with none left out
-pub living_all : (vs : List Version) (key time : ℕ) (listed : List ℕ) → listed ≡ of_key vs key → IsLiving vs key time listed
-living_all vs key time listed is = record { from = 0; left = is ∙ sym (none (of_key vs key)); over = λ v l. absurd (omega (arith, l)) }
+pub living_all : (vs : List Version) (key : ℕ) (gone : Version → Bool) (listed : List ℕ) → listed ≡ of_key vs key → IsLiving vs key gone listed
+living_all vs key gone listed is = record { from = 0; left = is ∙ sym (none (of_key vs key)); over = λ v l. absurd (omega (arith, l)) }
   where
     none : (xs : List ℕ) → filter (λ v. not (nat_lt v 0)) xs ≡ xs
     none [] = refl

@@ -1,8 +1,8 @@
-//! Living versions: the versions of a key without some of the first, which are over.
-ghost use Rattle.std.specs.Prelude.{◌≡◌, ℕ, ◌%◌, ◌<◌, ◌≤◌, length, slice_index_or, slice_set};
-ghost use Rattle.hek_rules.specs.Words.{end_time};
+//! Living versions: the versions of a key without some of the first, which a reader does not see.
+ghost use Rattle.std.specs.Prelude.{◌≡◌, ℕ, ◌%◌, ◌<◌, ◌≤◌, Some, length, slice_index_or, slice_set};
+ghost use Rattle.hek_rules.specs.Words.{end_time, writer_of};
 ghost use Rattle.hek_store.specs.Chained.{AreLinks, keys_of, next_links, no_ends};
-ghost use Rattle.hek_store.specs.Living.{IsLiving, IsStart, is_over, is_past};
+ghost use Rattle.hek_store.specs.Living.{IsLiving, IsStart, is_gone, is_over, is_past, is_at_or_by, is_writer, is_replaced, loses_writer, start_for};
 ghost use Rattle.hek_store.specs.Places.{key_versions_left};
 
 use crate::chains::Ends;
@@ -10,8 +10,8 @@ use crate::places::KeyVersions;
 use crate::slots::slot_of;
 use crate::store::Store;
 use crate::version::Version;
-use hek_rules::Time;
-use hek_word::EndWord;
+use hek_rules::{BeginRecord, Time, TxnId};
+use hek_word::{BeginWord, EndWord};
 
 /// Whether the word is a time that is not after this one.
 pub(crate) fn is_past(end: EndWord, time: Time) -> bool
@@ -34,18 +34,69 @@ fn is_over(version: &Version, time: Time) -> bool
     }
 }
 
-/// The link to the first version on a slot's chain, from a link on, that is not over.
-fn next_left(links: &[u32], versions: &[Version], start: u32, time: Time) -> u32
+fn is_at_or_by(begin: BeginWord, reader: TxnId) -> bool
+    ensures { result ≡ is_at_or_by reader begin }
+{
+    match begin.content() {
+        BeginRecord::At(_) => true,
+        BeginRecord::By(creator) => creator.number() == reader.number(),
+    }
+}
+
+fn is_writer(end: EndWord, reader: TxnId) -> bool
+    ensures { result ≡ is_writer reader (writer_of end) }
+{
+    match end.writer() {
+        Some(writer) => writer.number() == reader.number(),
+        None => false,
+    }
+}
+
+/// Whether the transaction writes over the version, which another transaction is not still making.
+fn is_replaced(version: &Version, reader: TxnId) -> bool
+    ensures { result ≡ is_replaced reader version.now }
+{
+    is_at_or_by(version.begin, reader) && is_writer(version.end, reader)
+}
+
+/// Whether the first word names a writer that the second does not name.
+pub(crate) fn loses_writer(was: EndWord, now: EndWord) -> bool
+    ensures { result ≡ loses_writer (writer_of was) (writer_of now) }
+{
+    match was.writer() {
+        Some(writer) => !is_writer(now, writer),
+        None => false,
+    }
+}
+
+/// Whether the reader, or everybody if there is none, does not see the version when looking at this time or later.
+fn is_gone(version: &Version, reader: &Option<TxnId>, time: Time) -> bool
+    ensures { result ≡ is_gone reader.now time version.now }
+{
+    match reader {
+        None => is_over(version, time),
+        Some(t) => is_over(version, time) || is_replaced(version, *t),
+    }
+}
+
+/// The link to the first version on a slot's chain, from a link on, that is not gone.
+fn next_left(
+    links: &[u32],
+    versions: &[Version],
+    start: u32,
+    reader: &Option<TxnId>,
+    time: Time,
+) -> u32
     requires rising { AreLinks links.now }
     requires within { start ≤ length links.now }
     requires paired { length versions.now ≡ length links.now }
     ensures { (slots slot : ℕ)
         → links.now ≡ next_links (λ k. k % slots) 0 (keys_of versions.now)
-        → IsStart slots slot time versions.now start
-        → IsStart slots slot time versions.now result }
+        → IsStart slots slot (is_gone reader.now time) versions.now start
+        → IsStart slots slot (is_gone reader.now time) versions.now result }
 {
     let mut link = start;
-    while link != 0 && is_over(&versions[link as usize - 1], time) {
+    while link != 0 && is_gone(&versions[link as usize - 1], reader, time) {
         link = links[link as usize - 1];
     }
     link
@@ -63,11 +114,32 @@ pub(crate) fn look_again(starts: &mut Vec<u32>, ends: &Vec<Ends>, slots: u64, ke
     starts[slot] = ends[slot].first;
 }
 
+/// The start of a slot for a reader: the slot's own one if it was passed over for this reader, otherwise that for all.
+fn start_for(
+    starts: &Vec<u32>,
+    own_starts: &Vec<u32>,
+    owners: &Vec<TxnId>,
+    slot: usize,
+    reader: TxnId,
+) -> u32
+    requires begun { slot < length starts.now.items }
+    requires own_begun { slot < length own_starts.now.items }
+    requires owned { slot < length owners.now.items }
+    ensures { result ≡ start_for starts.now.items own_starts.now.items owners.now.items slot reader }
+{
+    if owners[slot].number() == reader.number() {
+        own_starts[slot]
+    } else {
+        starts[slot]
+    }
+}
+
 impl Store {
-    /// The versions of a key in order of creation, without some of the first that are over: no transaction that looks
-    /// at this time or later sees them. Each takes time in the versions of other keys that share its slot.
-    pub fn living_of(&self, key: u64, time: Time) -> KeyVersions<'_>
-        ensures { IsLiving self.now.versions key time (key_versions_left result) }
+    /// The versions of a key in order of creation, without some of the first that the reader does not see when looking
+    /// at this time or later: those that are over, and those that the reader has written over. Each takes time
+    /// in the versions of other keys that share its slot.
+    pub fn living_of(&self, key: u64, reader: TxnId, time: Time) -> KeyVersions<'_>
+        ensures { IsLiving self.now.versions key (is_gone (Some reader) time) (key_versions_left result) }
     {
         if time < self.passed {
             return self.versions_of(key);
@@ -77,14 +149,15 @@ impl Store {
             links: self.next_of.as_slice(),
             versions: self.versions.as_slice(),
             key,
-            link: self.starts[slot],
+            link: start_for(&self.starts, &self.own_starts, &self.owners, slot, reader),
         }
     }
 
-    /// Passes over the first versions of the key's slot that are over by this time, unless versions are passed over for
-    /// a later time already. Takes time in the versions passed over; each is passed over once between two growths of
-    /// the store, and a growth starts again.
-    pub fn pass_over(&mut self, key: u64, time: Time)
+    /// Passes over the first versions of the key's slot that the reader does not see at this time or later, unless
+    /// versions are passed over for a later time already. What is over is passed over for all readers; what the reader
+    /// has written over, for the last reader of the slot alone. Takes time in the versions passed over; what is over is
+    /// passed over once between two growths of the store, and a growth starts again.
+    pub fn pass_over(&mut self, key: u64, reader: TxnId, time: Time)
         ensures { self.new ≡ self.old }
     {
         if time < self.passed {
@@ -95,9 +168,20 @@ impl Store {
             self.next_of.as_slice(),
             self.versions.as_slice(),
             self.starts[slot],
+            &None,
+            time,
+        );
+        let own = start_for(&self.starts, &self.own_starts, &self.owners, slot, reader);
+        let own_next = next_left(
+            self.next_of.as_slice(),
+            self.versions.as_slice(),
+            own,
+            &Some(reader),
             time,
         );
         self.passed = time;
         self.starts[slot] = next;
+        self.own_starts[slot] = own_next;
+        self.owners[slot] = reader;
     }
 }

@@ -5,15 +5,18 @@ ghost use Rattle.hek_store.specs.Indexed.{AreBuckets};
 
 use crate::chains::{Ends, append, no_ends};
 use crate::version::Version;
-use hek_rules::NoMemory;
+use hek_rules::{NoMemory, TxnId};
 
-/// The number of slots, the links and the ends of their chains, and the link that each slot starts at.
+/// The number of slots, the links and the ends of their chains, the link that each slot starts at, for all and for its
+/// owner, and the owners.
 #[derive(Drop)]
 pub(crate) struct Spread {
     pub(crate) slots: u64,
     pub(crate) links: Vec<u32>,
     pub(crate) ends: Vec<Ends>,
     pub(crate) starts: Vec<u32>,
+    pub(crate) own_starts: Vec<u32>,
+    pub(crate) owners: Vec<TxnId>,
 }
 
 /// The slot of a key. A key below the number of slots needs no division.
@@ -50,6 +53,8 @@ pub(crate) fn spread_over(versions: &Vec<Version>) -> Result<Spread, NoMemory>
     ensures len { IfOk result (λ s. vec_len s.links ≡ vec_len versions.now) }
     ensures room { IfOk result (λ s. vec_capacity versions.now ≤ vec_capacity s.links) }
     ensures starts { IfOk result (λ s. s.starts.items ≡ map (λ e. e.first) s.ends.items) }
+    ensures own_starts { IfOk result (λ s. s.own_starts.items ≡ s.starts.items) }
+    ensures owners { IfOk result (λ s. length s.owners.items ≡ s.slots) }
 {
     let alloc = *versions.allocator();
     let count = versions.capacity();
@@ -66,10 +71,14 @@ pub(crate) fn spread_over(versions: &Vec<Version>) -> Result<Spread, NoMemory>
     for slot in 0..ends.len() {
         starts.push_reserved(ends[slot].first);
     }
+    let own_starts = Vec::from_slice(alloc, starts.as_slice())?;
+    let owners = vec![in alloc; TxnId::new(0); slots as usize]?;
     Ok(Spread {
         slots,
         links,
         ends,
         starts,
+        own_starts,
+        owners,
     })
 }

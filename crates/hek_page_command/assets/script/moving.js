@@ -139,12 +139,12 @@ function onKey(event) {
   else if (key in MOVES) (MOVES[key] > 0 ? on : back)();
   else if (key === "Home") jump(0);
   else if (key === "End") jump(run.last);
-  else if (key === "Escape") { digits = ""; if (pinned) { pinned = null; show(); } }
+  else if (key === "Escape" && (digits || pinned)) { digits = ""; DOES.unpin(); }
   else if (key === "Backspace" && isTree) DOES.undo();
   else if (/^\d$/.test(key)) onDigit(key);
   else if (key === "Enter" && digits) { jump(Number(digits) - run.done); digits = ""; }
   else if (key === "Enter" && event.target.closest("g[tabindex]")) event.target.dispatchEvent(new MouseEvent("click", { bubbles: true }));
-  else if (key in LETTERS) DOES[LETTERS[key]]();
+  else if (key in LETTERS && (key !== "m" || storyPage)) DOES[LETTERS[key]]();
   else { tellKey(event); return; }
   event.preventDefault();
 }
@@ -218,8 +218,8 @@ function tellParent(went = false) {
   parent.postMessage({ hek: "place", place: placeSaid(), modes: modesNow(), isBlank: !$("blank").hidden, guesses, isOver: isTree && isWhole() && here === run.last, went }, "*");
 }
 
-/** A key that means nothing here is one for the page around this one. */
-function tellKey({ key }) { if (isFramed && isWatched) parent.postMessage({ hek: "key", key }, "*"); }
+/** A key that means nothing here is one for the page around this one, if that hasn't sent it. */
+function tellKey({ key }) { if (isFramed && isWatched && !isGoing) parent.postMessage({ hek: "key", key }, "*"); }
 
 /** The page around this one is printed in its place. */
 function tellPrint(event) {
