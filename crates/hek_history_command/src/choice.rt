@@ -56,7 +56,7 @@ impl Asked {
 
 /// How many repairs of an order a search tries where the words don't say: so many, and so many more for each transaction. A log of 3,000
 /// transactions is then given up at each level within seconds, and one of 4,500 scans that miss what others insert is judged.
-const EFFORT: usize = 40_000;
+const EFFORT: usize = 20_000;
 
 const EFFORT_OF_EACH: usize = 12;
 
