@@ -1,6 +1,4 @@
-//! What holds in a test. A helper's call costs a proof a tenth of what an assertion in the test itself does.
-ghost use Rattle.std.specs.Prelude.{IsTrue};
-
+//! What holds in a test.
 use std::fmt::Debug;
 use std::process::Abort;
 
@@ -20,9 +18,7 @@ pub(crate) fn is_at<P: Debug + Drop, T: PartialEq + Debug + Drop>(
 }
 
 /// It holds.
-pub(crate) fn holds(rt: &impl Abort, fact: bool)
-    ensures { IsTrue fact }
-{
+pub(crate) fn holds(rt: &impl Abort, fact: bool) {
     assert!(rt; fact);
 }
 

@@ -47,6 +47,4 @@ mod transcripts;
 #[cfg(test)]
 mod txns;
 #[cfg(test)]
-mod weak;
-#[cfg(test)]
 mod words;
