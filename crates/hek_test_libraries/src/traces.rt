@@ -45,6 +45,7 @@ fn reads_a_trace(rt: HostRuntime) {
 
 /// The trace, written to a sink with this much room, which takes so many bytes at a time: whether it went out, and what
 /// did.
+#[tactic(auto, using(hek_asm::proofs::RowLemmas::steps_declared))]
 fn sent(
     rt: &impl Abort,
     alloc: Global,
@@ -56,6 +57,7 @@ fn sent(
         assemble_text(alloc, STEPS).expect(rt, "a schedule"),
         step_replies(),
     );
+    let _ = schedule.buckets();
     holds(rt, schedule.steps().len() == 7);
     let mut sink = MemorySink::new(alloc, room, piece);
     let written = write_trace(&schedule, schedule.steps(), replies.as_slice(), &mut sink);

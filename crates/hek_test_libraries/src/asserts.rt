@@ -1,4 +1,6 @@
-//! What holds in a test.
+//! What holds in a test. A helper's call costs a proof a tenth of what an assertion in the test itself does.
+ghost use Rattle.std.specs.Prelude.{IsTrue};
+
 use std::fmt::Debug;
 use std::process::Abort;
 
@@ -18,7 +20,9 @@ pub(crate) fn is_at<P: Debug + Drop, T: PartialEq + Debug + Drop>(
 }
 
 /// It holds.
-pub(crate) fn holds(rt: &impl Abort, fact: bool) {
+pub(crate) fn holds(rt: &impl Abort, fact: bool)
+    ensures { IsTrue fact }
+{
     assert!(rt; fact);
 }
 

@@ -1,4 +1,8 @@
 //! Machines: loaded, run, copied and looked at. A call that is refused is made again.
+ghost use Rattle.std.specs.Prelude.{◌≡◌, length};
+ghost use Rattle.hek_laws.specs.Runs.{IsPlaced};
+ghost use Rattle.hek_txn.specs.TxnTable.{Declared};
+
 use crate::asserts::{holds, is, refused};
 use crate::refused::texts::{SCHEDULE, TRACE, assembled, told};
 use hek_machine::{Machine, Trace, run, run_at};
@@ -48,7 +52,9 @@ pub(crate) fn assert_same(
     );
 }
 
-pub(crate) fn assert_placed(rt: &(impl Abort + Eprint), machine: &Machine, event: &Event) {
+pub(crate) fn assert_placed(rt: &(impl Abort + Eprint), machine: &Machine, event: &Event)
+    ensures { IsPlaced (length machine.now.buckets) event.now }
+{
     match *event {
         Event::Scan(_, bucket) => assert!(rt; bucket < machine.buckets()),
         _ => {}
@@ -79,7 +85,9 @@ pub(crate) fn machine_after(
 }
 
 // The steps of a schedule.
+#[tactic(auto, using(hek_machine::proofs::PlacedSteps::steps_placed))]
 fn ran(rt: &(impl Abort + Eprint), alloc: Global, schedule: &Schedule) -> Trace {
+    let _ = schedule.buckets();
     match run(alloc, schedule, schedule.steps()) {
         Ok(ran) => ran,
         Err(_) => {
@@ -90,7 +98,9 @@ fn ran(rt: &(impl Abort + Eprint), alloc: Global, schedule: &Schedule) -> Trace 
 }
 
 // The same from another first clock.
+#[tactic(auto, using(hek_machine::proofs::PlacedSteps::steps_placed))]
 fn ran_late(rt: &(impl Abort + Eprint), alloc: Global, schedule: &Schedule) -> Trace {
+    let _ = schedule.buckets();
     match run_at(alloc, schedule, Time::new(50), schedule.steps()) {
         Ok(ran) => ran,
         Err(_) => {
@@ -166,7 +176,9 @@ fn rows(rt: &(impl Abort + Eprint), machine: &Machine) -> Pairs {
     }
 }
 
-fn declared(rt: &(impl Abort + Eprint), machine: &Machine, number: u64) -> TxnId {
+fn declared(rt: &(impl Abort + Eprint), machine: &Machine, number: u64) -> TxnId
+    ensures { Declared machine.now.txns result }
+{
     let t = TxnId::new(number);
     assert!(rt; machine.is_declared(t));
     t

@@ -47,4 +47,6 @@ mod transcripts;
 #[cfg(test)]
 mod txns;
 #[cfg(test)]
+mod weak;
+#[cfg(test)]
 mod words;

@@ -1,4 +1,7 @@
 //! The reasons of refusals that no schedule comes to: a clock that is full, and transactions that aren't declared.
+ghost use Rattle.std.specs.Prelude.{length};
+ghost use Rattle.hek_laws.specs.Runs.{IsPlaced};
+
 use crate::asserts::{holds, is_at};
 use hek_asm::assemble_text;
 use hek_machine::Machine;
@@ -99,7 +102,9 @@ fn stepped(rt: &impl Abort, machine: &mut Machine, event: Event) -> Result<Reply
     machine.step(event)
 }
 
-fn assert_placed(rt: &impl Abort, machine: &Machine, event: &Event) {
+fn assert_placed(rt: &impl Abort, machine: &Machine, event: &Event)
+    ensures { IsPlaced (length machine.now.buckets) event.now }
+{
     match *event {
         Event::Scan(_, bucket) => assert!(rt; bucket < machine.buckets()),
         _ => {}

@@ -1,4 +1,6 @@
 //! Images whose bytes have no end, and the longest image.
+ghost use Rattle.std.specs.Prelude.{◌<◌};
+
 use crate::asserts::{holds, is, is_at};
 use hek_asm::assemble_text;
 use hek_image::{LoadFault, load_image, write_image};
@@ -25,7 +27,9 @@ const ENDLESS: &[(&[u8], u64, LoadFault)] = &[
     (&NO_EVENT, 62, LoadFault::BadField(41)),
 ];
 
-fn assert_takes(rt: &impl Abort, alloc: Global, piece: usize, row: &(&[u8], u64, LoadFault)) {
+fn assert_takes(rt: &impl Abort, alloc: Global, piece: usize, row: &(&[u8], u64, LoadFault))
+    requires { 0 < piece }
+{
     let (bytes, taken, fault) = *row;
     let mut source = MemorySource::new(bytes, piece, Ending::Endless);
     is_at(rt, piece, load_image(alloc, &mut source).err(), Some(fault));

@@ -1,4 +1,6 @@
 //! Tables of transactions: the calls of their lists and times that no step makes.
+ghost use Rattle.hek_txn.specs.TxnTable.{Declared};
+
 use crate::asserts::{holds, is};
 use hek_asm::assemble_text;
 use hek_rules::{Time, TxnId, VersionId};
@@ -8,7 +10,9 @@ use std::process::Abort;
 use std::test::Fail;
 
 /// A table of three transactions, and the second of them.
-fn table(rt: &impl Abort, alloc: Global) -> (Txns, TxnId) {
+fn table(rt: &impl Abort, alloc: Global) -> (Txns, TxnId)
+    ensures { Declared result.0 result.1 }
+{
     let text = "buckets 1\ntxn a repeatable\ntxn b repeatable\ntxn c repeatable\n";
     let schedule = assemble_text(alloc, text).expect(rt, "a schedule");
     let txns = Txns::load(alloc, &schedule).expect(rt, "memory");

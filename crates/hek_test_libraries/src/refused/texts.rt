@@ -1,4 +1,6 @@
 //! Schedule texts, traces and images. A call that is refused is made again.
+ghost use Rattle.std.specs.Prelude.{◌≡◌, false};
+
 use crate::asserts::{holds, is, refused};
 use hek_asm::{AsmFault, TraceFault, assemble_text, canonical, read_trace};
 use hek_image::{LoadFault, load_image, write_image};
@@ -122,7 +124,9 @@ fn checks_a_trace(rt: HostRuntime) {
     is(&rt, verdict(&rt, rt.alloc(), &told), Verdict::Serial);
 }
 
-fn empty_sink(alloc: Global) -> MemorySink {
+fn empty_sink(alloc: Global) -> MemorySink
+    ensures { result.failed ≡ false }
+{
     MemorySink::new(alloc, IMAGE_LEN, 100)
 }
 
