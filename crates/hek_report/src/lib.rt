@@ -13,6 +13,7 @@ mod printing;
 mod reply;
 mod schedule_file;
 mod sending;
+mod texts;
 
 pub use fault::{HekFault, read_fault, report};
 pub use input::{INPUT, buffered};
@@ -22,3 +23,4 @@ pub use phase::StateText;
 pub use printing::Printing;
 pub use schedule_file::{ScheduleFile, read_text, schedule_in, schedule_of_text};
 pub use sending::{send, send_if_many, send_lines};
+pub use texts::{Hole, Text};

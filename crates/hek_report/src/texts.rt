@@ -1,0 +1,112 @@
+//! Text that goes out part by part: sentences as patterns with values.
+use crate::name::is_named;
+use hek_rules::{NoMemory, Schedule, TxnId};
+use std::fmt::Display;
+use std::io::Write;
+
+/// What stands for a mark of a pattern.
+#[derive(Clone, Copy)]
+pub enum Hole<'a> {
+    Word(&'a str),
+    Number(u64),
+    /// A number of 64 bits in upper-case hexadecimal, with all its digits.
+    Bits(u64),
+}
+
+impl<'a> Hole<'a> {
+    /// The name of a transaction, or its ID if the schedule doesn't declare it.
+    pub fn txn(schedule: &'a Schedule, txn: TxnId) -> Hole<'a> {
+        if is_named(schedule, txn) {
+            Hole::Word(schedule.name_of(txn))
+        } else {
+            Hole::Number(txn.number())
+        }
+    }
+}
+
+/// Text that is appended to bytes. Writing fails only if memory runs out. That is kept, so that no part has to be asked for it,
+/// and `done` says it.
+#[derive(Drop)]
+pub struct Text<'t> {
+    bytes: &'t mut Vec<u8>,
+    is_short: bool,
+}
+
+impl<'t> Text<'t> {
+    /// Nothing yet, after these bytes.
+    pub fn after(bytes: &'t mut Vec<u8>) -> Text<'t> {
+        Text {
+            bytes,
+            is_short: false,
+        }
+    }
+
+    /// Adds a part.
+    pub fn put(&mut self, part: &str) {
+        if self.bytes.extend_from_slice(part.as_bytes()).is_err() {
+            self.is_short = true;
+        }
+    }
+
+    /// Adds a value as `{}` prints it.
+    pub fn show<T: Display>(&mut self, value: &T) {
+        if write!(self.bytes, "{value}").is_err() {
+            self.is_short = true;
+        }
+    }
+
+    /// Adds a pattern, with a value in place of each `@`, in their order.
+    pub fn form(&mut self, pattern: &str, holes: &[Hole<'_>]) {
+        for (place, part) in pattern.split('@').enumerate() {
+            if let Some(before) = place.checked_sub(1) {
+                if let Some(hole) = holes.get(before) {
+                    self.fill(*hole);
+                }
+            }
+            self.put(part);
+        }
+    }
+
+    fn fill(&mut self, hole: Hole<'_>) {
+        match hole {
+            Hole::Word(word) => self.put(word),
+            Hole::Number(number) => self.show(&number),
+            Hole::Bits(bits) => self.put_bits(bits),
+        }
+    }
+
+    fn put_bits(&mut self, bits: u64) {
+        if write!(self.bytes, "{bits:016X}").is_err() {
+            self.is_short = true;
+        }
+    }
+
+    /// Adds names, separated by commas, with `and` before the last.
+    pub fn names(&mut self, schedule: &Schedule, txns: &[TxnId]) {
+        for (place, txn) in txns.iter().enumerate() {
+            let before = match txns.len().saturating_sub(place) {
+                _ if place == 0 => "",
+                1 => " and ",
+                _ => ", ",
+            };
+            self.form("@@", &[Hole::Word(before), Hole::txn(schedule, *txn)]);
+        }
+    }
+
+    /// The bytes, for what is put there in another way; `note` keeps what came of it.
+    pub fn bytes(&mut self) -> &mut Vec<u8> {
+        self.bytes
+    }
+
+    /// Keeps that memory ran out, if it did.
+    pub fn note(&mut self, put: Result<(), NoMemory>) {
+        if put.is_err() {
+            self.is_short = true;
+        }
+    }
+
+    /// Says whether memory sufficed for all parts.
+    pub fn done(self) -> Result<(), NoMemory> {
+        if self.is_short { Err(NoMemory) } else { Ok(()) }
+    }
+}
