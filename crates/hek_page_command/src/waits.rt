@@ -173,7 +173,7 @@ fn put_reasons(t: TxnId, reasons: &[Reason], text: &mut Text<'_>) {
     for reason in reasons {
         match reason {
             Reason::ReadLocked { version, readers } => {
-                for reader in readers.iter() {
+                for reader in readers.as_slice() {
                     let holes = [
                         me,
                         Hole::Number(reader.number()),

@@ -54,8 +54,8 @@ fn put_change(schedule: &Schedule, change: &Change, text: &mut Text<'_>) {
             "bucket @ locks @ -> @",
             &[
                 Hole::Number(*bucket),
-                Hole::Number(*before),
-                Hole::Number(*after),
+                Hole::Number(*before as u64),
+                Hole::Number(*after as u64),
             ],
         ),
         Change::LockList {
