@@ -2,7 +2,6 @@
 use crate::commands::Command;
 use crate::rows::Value;
 use crate::said::{Said, digits};
-use crate::texts::Text;
 use clap::ArgMatches;
 use hek_convert_command::hex_number;
 use hek_report::INPUT;
@@ -62,7 +61,7 @@ fn advise_turned(word: &str, found: &ArgMatches<'_>, said: &mut Said) {
 }
 
 /// Says that a number of an option has a sign, if one has.
-pub fn advise_sign(command: Command, words: &[&str], out: &mut Text) {
+pub fn advise_sign(command: Command, words: &[&str], out: &mut Text<'_>) {
     for (place, word) in words.iter().enumerate() {
         let Some(name) = word.strip_prefix("--") else {
             continue;

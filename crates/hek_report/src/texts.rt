@@ -60,14 +60,39 @@ impl<'t> Text<'t> {
         for (place, part) in pattern.split('@').enumerate() {
             if let Some(before) = place.checked_sub(1) {
                 if let Some(hole) = holes.get(before) {
-                    self.fill(*hole);
+                    self.put_hole(*hole);
                 }
             }
             self.put(part);
         }
     }
 
-    fn fill(&mut self, hole: Hole<'_>) {
+    /// Adds a pattern, with a word in place of each `@`, in their order.
+    pub fn fill(&mut self, pattern: &str, words: &[&str]) {
+        for (place, part) in pattern.split('@').enumerate() {
+            if let Some(before) = place.checked_sub(1) {
+                self.put(words.get(before).copied().unwrap_or(""));
+            }
+            self.put(part);
+        }
+    }
+
+    /// Adds words, with a blank between them.
+    pub fn words(&mut self, words: &[&str]) {
+        for (place, word) in words.iter().enumerate() {
+            self.put(if place > 0 { " " } else { "" });
+            self.put(word);
+        }
+    }
+
+    /// Adds a mark so many times.
+    pub fn marks(&mut self, mark: &str, times: usize) {
+        for _ in 0..times {
+            self.put(mark);
+        }
+    }
+
+    fn put_hole(&mut self, hole: Hole<'_>) {
         match hole {
             Hole::Word(word) => self.put(word),
             Hole::Number(number) => self.show(&number),
@@ -96,6 +121,11 @@ impl<'t> Text<'t> {
     /// The bytes, for what is put there in another way; `note` keeps what came of it.
     pub fn bytes(&mut self) -> &mut Vec<u8> {
         self.bytes
+    }
+
+    /// Keeps that memory ran out.
+    pub fn lack_memory(&mut self) {
+        self.is_short = true;
     }
 
     /// Keeps that memory ran out, if it did.
