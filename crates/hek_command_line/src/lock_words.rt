@@ -4,7 +4,7 @@ use crate::rows::Value;
 use crate::said::{Said, digits};
 use clap::ArgMatches;
 use hek_convert_command::hex_number;
-use hek_report::INPUT;
+use hek_report::{INPUT, Text};
 use hek_rules::number;
 
 /// Says what is wrong with the first bad word or the waits of `release` and `word`.
