@@ -212,11 +212,12 @@ fn put_words(
     lines: &[u64],
     out: &mut Lines,
 ) {
-    let mut words = Sentence::new(alloc, schedule);
+    let mut said = Vec::new(alloc);
+    let mut words = Sentence::new(schedule, &mut said);
     say(made, moves, line_of(made, lines), &mut words);
-    match words.text() {
-        Some(text) => put_bytes("say", text.as_slice(), out),
-        None => out.lack_memory(),
+    match words.done() {
+        Ok(()) => put_bytes("say", said.as_slice(), out),
+        Err(_) => out.lack_memory(),
     }
     put_bytes("why", made.why.as_slice(), out);
 }

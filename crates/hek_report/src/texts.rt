@@ -8,6 +8,8 @@ use std::io::Write;
 #[derive(Clone, Copy)]
 pub enum Hole<'a> {
     Word(&'a str),
+    /// A word in braces.
+    Braced(&'a str),
     Number(u64),
     /// A number of 64 bits in upper-case hexadecimal, with all its digits.
     Bits(u64),
@@ -95,6 +97,7 @@ impl<'t> Text<'t> {
     fn put_hole(&mut self, hole: Hole<'_>) {
         match hole {
             Hole::Word(word) => self.put(word),
+            Hole::Braced(word) => self.fill("{@}", &[word]),
             Hole::Number(number) => self.show(&number),
             Hole::Bits(bits) => self.put_bits(bits),
         }
