@@ -29,20 +29,12 @@ pub(crate) fn put_looked(
 }
 
 fn put_sight(schedule: &Schedule, v: VersionId, sight: Sight, text: &mut Text<'_>) {
-    let version = Hole::Number(v.index());
+    text.form("version @ is ", &[Hole::Number(v.index())]);
     match sight {
-        Sight::Seen => text.form("version @ is seen", &[version]),
-        Sight::Hidden | Sight::HiddenActive(_) => {
-            text.form("version @ is passed over", &[version]);
-        }
-        Sight::SeenIf(u) => text.form(
-            "version @ is seen if @ commits",
-            &[version, Hole::txn(schedule, u)],
-        ),
-        Sight::HiddenIf(u) => text.form(
-            "version @ is passed over if @ commits",
-            &[version, Hole::txn(schedule, u)],
-        ),
+        Sight::Seen => text.put("seen"),
+        Sight::Hidden | Sight::HiddenActive(_) => text.put("passed over"),
+        Sight::SeenIf(u) => text.form("seen if @ commits", &[Hole::txn(schedule, u)]),
+        Sight::HiddenIf(u) => text.form("passed over if @ commits", &[Hole::txn(schedule, u)]),
     }
 }
 
@@ -54,12 +46,19 @@ fn put_made(
     text: &mut Text<'_>,
 ) {
     match begin {
-        BeginRecord::At(time) if time.number() == Time::INFINITY => text.put("never made"),
-        BeginRecord::At(time) => text.form("made at @", &[Hole::Number(time.number())]),
+        BeginRecord::At(time) => put_time("never made", "made at @", time, text),
         BeginRecord::By(u) => {
             text.form("made by @", &[Hole::txn(schedule, u)]);
             put_party(machine, t, u, text);
         }
+    }
+}
+
+/// A time, or what is said in place of infinity.
+fn put_time(never: &str, pattern: &str, time: Time, text: &mut Text<'_>) {
+    match time.number() {
+        Time::INFINITY => text.put(never),
+        ticks => text.form(pattern, &[Hole::Number(ticks)]),
     }
 }
 
@@ -69,10 +68,8 @@ fn put_ended(schedule: &Schedule, machine: &Machine, t: TxnId, end: EndWord, tex
         return put_party(machine, t, u, text);
     }
     match end.time() {
-        Some(time) if time.number() != Time::INFINITY => {
-            text.form("ended at @", &[Hole::Number(time.number())]);
-        }
-        _ => text.put("not written over"),
+        Some(time) => put_time("not written over", "ended at @", time, text),
+        None => text.put("not written over"),
     }
 }
 

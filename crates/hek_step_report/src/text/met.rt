@@ -14,40 +14,39 @@ pub(crate) fn put_stopped(
     met: Met,
     text: &mut Text<'_>,
 ) {
-    let version = Hole::Number(v.index());
     match met {
         Met::Writer(u) => {
-            let (name, more) = (Hole::txn(schedule, u), Hole::Word(writer_words(cause)));
-            text.form("@ writes over version @@", &[name, version, more]);
+            put_version("@ writes over version @", Hole::txn(schedule, u), v, text);
+            text.put(writer_words(cause));
             put_end_word(machine, v, text);
         }
         Met::Creator(u) => {
-            text.form("@ made version @", &[Hole::txn(schedule, u), version]);
+            put_version("@ made version @", Hole::txn(schedule, u), v, text);
             put_creator(machine, cause, u, text);
             put_begin_word(machine, v, text);
         }
         Met::Readers(count) => {
-            text.form(
-                "version @ has @ readers",
-                &[version, Hole::Number(u64::from(count))],
-            );
+            let holes = [Hole::Number(v.index()), Hole::Number(u64::from(count))];
+            text.form("version @ has @ readers", &holes);
             put_end_word(machine, v, text);
         }
         Met::EndedAt(time) => {
-            text.form(
-                "version @ was written over, at @",
-                &[version, Hole::Number(time.number())],
-            );
+            let holes = [Hole::Number(v.index()), Hole::Number(time.number())];
+            text.form("version @ was written over, at @", &holes);
             put_end_word(machine, v, text);
         }
         Met::MadeAt(time) => {
-            text.form(
-                "version @ of the key was made at @, after @ began",
-                &[version, Hole::Number(time.number()), Hole::txn(schedule, t)],
-            );
+            let holes = [Hole::Number(v.index()), Hole::Number(time.number())];
+            text.form("version @ of the key was made at @, after ", &holes);
+            text.form("@ began", &[Hole::txn(schedule, t)]);
             put_begin_word(machine, v, text);
         }
     }
+}
+
+/// A pattern with a name and a version.
+fn put_version(pattern: &str, name: Hole<'_>, v: VersionId, text: &mut Text<'_>) {
+    text.form(pattern, &[name, Hole::Number(v.index())]);
 }
 
 /// What the cause says of the writer of a version.

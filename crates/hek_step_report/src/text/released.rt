@@ -52,9 +52,9 @@ fn put_given(schedule: &Schedule, txn: TxnId, release: Release, text: &mut Text<
 }
 
 /// `a read-locked version 0, which b writes`.
-fn put_read(
-    schedule: &Schedule,
-    name: Hole<'_>,
+fn put_read<'a>(
+    schedule: &'a Schedule,
+    name: Hole<'a>,
     version: VersionId,
     writer: Option<TxnId>,
     text: &mut Text<'_>,
