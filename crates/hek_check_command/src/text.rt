@@ -34,7 +34,7 @@ fn put_summary(reported: &Reported<'_>, lines: &mut Vec<u8>) -> Result<(), NoMem
     text.show(&reported.judged);
     if let Some(together) = reported.together {
         text.put("; the outcome is ");
-        put_phrase(reported.schedule, together, text.bytes())?;
+        put_phrase(reported.schedule, together, &mut text);
     }
     text.put("\n");
     text.done()

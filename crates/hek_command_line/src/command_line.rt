@@ -327,9 +327,9 @@ fn suggest(
     }
     if error.kind() == ClapKind::InvalidSubcommand {
         if let Some(command) = reader_of(word) {
-            text.fill("  | did you mean `@ @`?\n", &pair(command.name(), word));
+            text.form("  | did you mean `@ @`?\n", &pair(command.name(), word));
         } else if let Some(name) = meant_command(alloc, word) {
-            text.fill("  | did you mean `@`?\n", &[name]);
+            text.form("  | did you mean `@`?\n", &[name]);
         }
     }
     text.done()

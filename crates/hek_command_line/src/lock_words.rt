@@ -70,7 +70,7 @@ pub fn advise_sign(command: Command, words: &[&str], out: &mut Text<'_>) {
             return;
         };
         if is_count(command, name) && has_sign(value) {
-            out.fill(
+            out.form(
                 "  | `--@` wants a number without a sign, and `@` has one\n",
                 &[&*name, *value],
             );

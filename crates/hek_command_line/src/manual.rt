@@ -58,7 +58,7 @@ pub fn manual_page(alloc: Global) -> Result<Vec<u8>, NoMemory> {
     let mut bytes = Vec::new(alloc);
     let mut out = Text::after(&mut bytes);
     let version = VERSION.split('\n').next().unwrap_or("");
-    out.fill("@@@", &[FRONT, version, SYNOPSIS]);
+    out.form("@@@", &[FRONT, version, SYNOPSIS]);
     put_escaped(&mut out, ABOUT, ROFF);
     out.put(OPTIONS);
     for command in Command::ALL {
@@ -66,7 +66,7 @@ pub fn manual_page(alloc: Global) -> Result<Vec<u8>, NoMemory> {
     }
     out.put(".SH EXIT STATUS\n");
     for (status, meaning) in STATUSES {
-        out.fill(".TP\n@\n", &[status]);
+        out.form(".TP\n@\n", &[status]);
         put_escaped(&mut out, meaning, ROFF);
         out.put("\n");
     }
@@ -102,9 +102,9 @@ fn escape_of<'e>(byte: u8, escapes: &[(u8, &'e str)]) -> Option<&'e str> {
 
 /// The part of a command.
 fn put_command(out: &mut Text<'_>, row: &Row) {
-    out.fill(".SS @\n", &[row.name]);
+    out.form(".SS @\n", &[row.name]);
     put_escaped(out, row.about, ROFF);
-    out.fill(".\n.PP\n\\fBhek @", &[row.name]);
+    out.form(".\n.PP\n\\fBhek @", &[row.name]);
     put_usage(out, row);
     out.put("\\fR\n");
     for argument in row.arguments {
@@ -132,15 +132,15 @@ fn put_usage(out: &mut Text<'_>, row: &Row) {
     out.put(may);
     for &Argument(name, form, _) in row.arguments {
         if let Form::Needed(value, _) = form {
-            out.fill(" \\-\\-@ <@>", &[name, value]);
+            out.form(" \\-\\-@ <@>", &[name, value]);
         }
     }
     for &Argument(name, form, _) in row.arguments {
         match form {
-            Form::Placed(Times::One, _) => out.fill(" <@>", &[name]),
-            Form::Placed(Times::Maybe, _) => out.fill(" [@]", &[name]),
-            Form::Placed(Times::Several, _) => out.fill(" <@>...", &[name]),
-            Form::Placed(Times::Any, _) => out.fill(" [@]...", &[name]),
+            Form::Placed(Times::One, _) => out.form(" <@>", &[name]),
+            Form::Placed(Times::Maybe, _) => out.form(" [@]", &[name]),
+            Form::Placed(Times::Several, _) => out.form(" <@>...", &[name]),
+            Form::Placed(Times::Any, _) => out.form(" [@]...", &[name]),
             Form::Flag | Form::Valued(_, _) | Form::Needed(_, _) | Form::Choice(_) | Form::Output =>
                 {}
         }
@@ -151,14 +151,14 @@ fn put_usage(out: &mut Text<'_>, row: &Row) {
 fn put_argument(out: &mut Text<'_>, argument: &Argument) {
     let &Argument(name, form, help) = argument;
     if form.is_placed() {
-        out.fill(".TP\n\\fI@\\fR\n", &[name]);
+        out.form(".TP\n\\fI@\\fR\n", &[name]);
     } else {
         put_option(out, name, form);
     }
     put_escaped(out, help, ROFF);
     if let Some(Value::OneOf(words)) = form.value() {
         for (place, word) in words.iter().enumerate() {
-            out.fill(if place == 0 { " (@" } else { ", @" }, &[*word]);
+            out.form(if place == 0 { " (@" } else { ", @" }, &[*word]);
         }
         out.put(")");
     }
@@ -175,9 +175,9 @@ fn put_option(out: &mut Text<'_>, name: &str, form: Form) {
     put_escaped(out, name, ROFF);
     let value = form.value_name();
     match form {
-        Form::Choice(_) => out.fill("\\fR[=\\fI@\\fR]\n", &[value]),
+        Form::Choice(_) => out.form("\\fR[=\\fI@\\fR]\n", &[value]),
         _ if value.is_empty() => out.put("\\fR\n"),
-        _ => out.fill("\\fR \\fI@\\fR\n", &[value]),
+        _ => out.form("\\fR \\fI@\\fR\n", &[value]),
     }
 }
 

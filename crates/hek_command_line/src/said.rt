@@ -61,7 +61,7 @@ impl Said {
     fn member(&mut self, name: &str, pattern: &str, values: &[&str]) {
         let mut bytes = Vec::new(self.alloc);
         let mut text = Text::after(&mut bytes);
-        text.fill(pattern, values);
+        text.form(pattern, values);
         if text.done().is_err() {
             return self.object.lack_memory();
         }
@@ -117,7 +117,7 @@ impl Said {
         let &[before, pattern, after] = parts;
         let mut text = Text::after(&mut self.lines);
         text.put(before);
-        text.fill(pattern, values);
+        text.form(pattern, values);
         text.put(after);
         let put = text.done();
         self.note(put);

@@ -22,7 +22,7 @@ pub fn completions(alloc: Global, shell: &str) -> Option<Result<Vec<u8>, NoMemor
 /// The names of all commands, with a blank after each.
 fn put_names(out: &mut Text<'_>) {
     for command in Command::ALL {
-        out.fill("@ ", &[command.name()]);
+        out.form("@ ", &[command.name()]);
     }
 }
 
@@ -104,12 +104,12 @@ fn put_bash_values(out: &mut Text<'_>, row: &Row) {
     let command = row.name;
     for &Argument(name, form, _) in row.arguments {
         match form {
-            Form::Placed(_, Value::OneOf(_)) => out.fill("    \"@ @", &[command, command]),
-            Form::Choice(_) => out.fill("    \"@ --@=", &[command, name]),
+            Form::Placed(_, Value::OneOf(_)) => out.form("    \"@ @", &[command, command]),
+            Form::Choice(_) => out.form("    \"@ --@=", &[command, name]),
             Form::Valued(_, _) | Form::Needed(_, _) => {
-                out.fill("    \"@ --@\" | \"@ --@=", &[command, name, command, name]);
+                out.form("    \"@ --@\" | \"@ --@=", &[command, name, command, name]);
             }
-            Form::Output => out.fill("    \"@ --@\" | \"@ -o", &[command, name, command]),
+            Form::Output => out.form("    \"@ --@\" | \"@ -o", &[command, name, command]),
             Form::Placed(_, _) | Form::Flag => continue,
         }
         put_bash_value(out, form);
@@ -131,10 +131,10 @@ fn put_bash_value(out: &mut Text<'_>, form: Form) {
 
 /// The line of a command: its options, and whether it takes files.
 fn put_bash_options(out: &mut Text<'_>, row: &Row) {
-    out.fill("    @) words=\"", &[row.name]);
+    out.form("    @) words=\"", &[row.name]);
     for &Argument(name, form, _) in row.arguments {
         if !form.is_placed() {
-            out.fill("--@ ", &[name]);
+            out.form("--@ ", &[name]);
         }
     }
     out.put("--help\"");
@@ -194,14 +194,14 @@ fn put_zsh(out: &mut Text<'_>) {
     out.put(ZSH_FRONT);
     for command in Command::ALL {
         let row = command.row();
-        out.fill("        '@:", &[row.name]);
+        out.form("        '@:", &[row.name]);
         put_escaped(out, row.about, QUOTED);
         out.put("'\n");
     }
     out.put(ZSH_MIDDLE);
     for command in Command::ALL {
         let row = command.row();
-        out.fill("        @)\n            _arguments \\\n", &[row.name]);
+        out.form("        @)\n            _arguments \\\n", &[row.name]);
         for argument in row.arguments {
             put_zsh_argument(out, argument);
         }
@@ -215,13 +215,13 @@ fn put_zsh_argument(out: &mut Text<'_>, argument: &Argument) {
     let &Argument(name, form, help) = argument;
     out.put("                ");
     match form {
-        Form::Placed(Times::One, _) => out.fill("':@", &[name]),
-        Form::Placed(Times::Maybe, _) => out.fill("'::@", &[name]),
-        Form::Placed(Times::Several | Times::Any, _) => out.fill("'*:@", &[name]),
-        Form::Flag => out.fill("'--@[", &[name]),
-        Form::Valued(_, _) | Form::Needed(_, _) => out.fill("'--@=[", &[name]),
-        Form::Choice(_) => out.fill("'--@=-[", &[name]),
-        Form::Output => out.fill("{-o,--@=}'[", &[name]),
+        Form::Placed(Times::One, _) => out.form("':@", &[name]),
+        Form::Placed(Times::Maybe, _) => out.form("'::@", &[name]),
+        Form::Placed(Times::Several | Times::Any, _) => out.form("'*:@", &[name]),
+        Form::Flag => out.form("'--@[", &[name]),
+        Form::Valued(_, _) | Form::Needed(_, _) => out.form("'--@=[", &[name]),
+        Form::Choice(_) => out.form("'--@=-[", &[name]),
+        Form::Output => out.form("{-o,--@=}'[", &[name]),
     }
     if !form.is_placed() {
         put_escaped(out, help, ZSH_TEXT);
@@ -236,7 +236,7 @@ fn put_zsh_value(out: &mut Text<'_>, form: Form) {
     match form {
         Form::Flag => return,
         Form::Choice(_) => out.put("::HOW:"),
-        Form::Valued(name, _) | Form::Needed(name, _) => out.fill(":@:", &[name]),
+        Form::Valued(name, _) | Form::Needed(name, _) => out.form(":@:", &[name]),
         Form::Output => out.put(":OUT:"),
         Form::Placed(_, _) => out.put(":"),
     }
@@ -266,7 +266,7 @@ fn put_fish(out: &mut Text<'_>) {
     out.put("'\n");
     for command in Command::ALL {
         let row = command.row();
-        out.fill(
+        out.form(
             "complete -c hek -n __fish_use_subcommand -a @ -d '",
             &[row.name],
         );
@@ -293,7 +293,7 @@ fn put_fish_command(out: &mut Text<'_>, row: &Row) {
 
 /// What begins a line of a command.
 fn put_fish_start(out: &mut Text<'_>, row: &Row) {
-    out.fill(
+    out.form(
         "complete -c hek -n '__fish_seen_subcommand_from @'",
         &[row.name],
     );
@@ -307,12 +307,12 @@ fn put_fish_argument(out: &mut Text<'_>, row: &Row, argument: &Argument) {
     }
     put_fish_start(out, row);
     match form {
-        Form::Output => out.fill(" -s o -l @ -r -F", &[name]),
+        Form::Output => out.form(" -s o -l @ -r -F", &[name]),
         Form::Valued(_, _) | Form::Needed(_, _) if form.is_file() => {
-            out.fill(" -l @ -r -F", &[name]);
+            out.form(" -l @ -r -F", &[name]);
         }
-        Form::Valued(_, _) | Form::Needed(_, _) => out.fill(" -l @ -x", &[name]),
-        Form::Choice(_) | Form::Flag => out.fill(" -l @", &[name]),
+        Form::Valued(_, _) | Form::Needed(_, _) => out.form(" -l @ -x", &[name]),
+        Form::Choice(_) | Form::Flag => out.form(" -l @", &[name]),
         Form::Placed(_, _) => {}
     }
     if has_words(form) {

@@ -113,7 +113,7 @@ fn put_row(
     put_judged(alloc, given, row.outcome(), text)?;
     text.form("; waited @; first ", &[Hole::Number(row.waited())]);
     put_names(given.schedule, row.first(), text);
-    put_details(given.schedule, details, text.bytes())?;
+    put_details(given.schedule, details, text);
     text.put("\n");
     Ok(())
 }
@@ -207,7 +207,7 @@ fn put_together(found: &Found, lines: &mut Vec<u8>) -> Result<(), NoMemory> {
     };
     let mut text = Text::after(lines);
     text.put("# ");
-    put_phrase(&found.played.schedule, together, text.bytes())?;
+    put_phrase(&found.played.schedule, together, &mut text);
     if let Some(line) = found.breaks {
         put_broken(line, &mut text);
     }

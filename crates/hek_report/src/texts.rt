@@ -1,18 +1,35 @@
 //! Text that goes out part by part: sentences as patterns with values.
 use crate::name::is_named;
 use hek_rules::{NoMemory, Schedule, TxnId};
-use std::fmt::Display;
+use std::fmt::{self, Display};
 use std::io::Write;
 
-/// What stands for a mark of a pattern.
+/// What stands for a mark of a pattern, where its values are of several kinds.
 #[derive(Clone, Copy)]
 pub enum Hole<'a> {
     Word(&'a str),
     /// A word in braces.
     Braced(&'a str),
     Number(u64),
+    /// So many things, which a word names: `1 read`, `2 reads`.
+    Count(u64, &'a str),
     /// A number of 64 bits in upper-case hexadecimal, with all its digits.
     Bits(u64),
+}
+
+impl Display for Hole<'_> {
+    fn fmt<W: fmt::Write>(&self, f: &mut fmt::Formatter<W>) -> fmt::Result {
+        match *self {
+            Hole::Word(word) => f.write_str(word),
+            Hole::Braced(word) => write!(f, "{{{word}}}"),
+            Hole::Number(number) => write!(f, "{number}"),
+            Hole::Count(count, noun) => {
+                let ending = if count == 1 { "" } else { "s" };
+                write!(f, "{count} {noun}{ending}")
+            }
+            Hole::Bits(bits) => write!(f, "{bits:016X}"),
+        }
+    }
 }
 
 impl<'a> Hole<'a> {
@@ -57,23 +74,13 @@ impl<'t> Text<'t> {
         }
     }
 
-    /// Adds a pattern, with a value in place of each `@`, in their order.
-    pub fn form(&mut self, pattern: &str, holes: &[Hole<'_>]) {
+    /// Adds a pattern, with a value in place of each `@`, in their order. A value that has no mark is left out.
+    pub fn form<T: Display>(&mut self, pattern: &str, values: &[T]) {
         for (place, part) in pattern.split('@').enumerate() {
             if let Some(before) = place.checked_sub(1) {
-                if let Some(hole) = holes.get(before) {
-                    self.put_hole(*hole);
+                if let Some(value) = values.get(before) {
+                    self.show(value);
                 }
-            }
-            self.put(part);
-        }
-    }
-
-    /// Adds a pattern, with a word in place of each `@`, in their order.
-    pub fn fill(&mut self, pattern: &str, words: &[&str]) {
-        for (place, part) in pattern.split('@').enumerate() {
-            if let Some(before) = place.checked_sub(1) {
-                self.put(words.get(before).copied().unwrap_or(""));
             }
             self.put(part);
         }
@@ -94,21 +101,6 @@ impl<'t> Text<'t> {
         }
     }
 
-    fn put_hole(&mut self, hole: Hole<'_>) {
-        match hole {
-            Hole::Word(word) => self.put(word),
-            Hole::Braced(word) => self.fill("{@}", &[word]),
-            Hole::Number(number) => self.show(&number),
-            Hole::Bits(bits) => self.put_bits(bits),
-        }
-    }
-
-    fn put_bits(&mut self, bits: u64) {
-        if write!(self.bytes, "{bits:016X}").is_err() {
-            self.is_short = true;
-        }
-    }
-
     /// Adds names, separated by commas, with `and` before the last.
     pub fn names(&mut self, schedule: &Schedule, txns: &[TxnId]) {
         for (place, txn) in txns.iter().enumerate() {
@@ -119,6 +111,21 @@ impl<'t> Text<'t> {
             };
             self.form("@@", &[Hole::Word(before), Hole::txn(schedule, *txn)]);
         }
+    }
+
+    /// How many characters the line has that is begun.
+    pub fn column(&self) -> usize {
+        let mut column = 0usize;
+        for byte in self.bytes.iter().rev() {
+            if *byte == b'\n' {
+                return column;
+            }
+            // The further bytes of a character begin with the bits 10.
+            if *byte & 0xC0 != 0x80 {
+                column = column.saturating_add(1);
+            }
+        }
+        column
     }
 
     /// The bytes, for what is put there in another way; `note` keeps what came of it.

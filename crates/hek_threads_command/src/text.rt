@@ -87,7 +87,7 @@ pub(crate) fn put_outcome(
         text.form(" @=@", &[Hole::Number(*key), Hole::Number(*value)]);
     }
     text.put("; ");
-    put_word(&outcome.together, text.bytes())?;
+    put_word(&outcome.together, &mut text);
     text.done()
 }
 
@@ -112,7 +112,7 @@ pub(crate) fn put_seen(
     let mut text = Text::after(lines);
     text.form("@ ", &[Hole::Number(runs)]);
     put_outcome(schedule, outcome, text.bytes())?;
-    put_details(schedule, &outcome.together, text.bytes())?;
+    put_details(schedule, &outcome.together, &mut text);
     text.put("\n");
     text.done()
 }
