@@ -100,7 +100,7 @@ complete -c hek -n '__fish_seen_subcommand_from history' -l sessions -d 'has ses
 complete -c hek -n '__fish_seen_subcommand_from history' -l no-sessions -d 'has sessions not bind'
 complete -c hek -n '__fish_seen_subcommand_from history' -l guarantees -d 'prints a line for each guarantee of sessions; after the levels, if they are asked for too'
 complete -c hek -n '__fish_seen_subcommand_from history' -l order -x -a 'any versions real versions,real' -d 'says which order binds: any, versions, real, or versions,real; without it versions, where the log knows them'
-complete -c hek -n '__fish_seen_subcommand_from history' -l effort -x -d 'tries up to N repairs of an order before it gives up; without it 100000, and one for each transaction'
+complete -c hek -n '__fish_seen_subcommand_from history' -l effort -x -d 'tries up to N repairs of an order before it gives up; without it 20000, and 12 for each transaction'
 complete -c hek -n '__fish_seen_subcommand_from history' -l all -a 'each counts' -d 'goes on after an anomaly, without the answers on which it rests, and counts them by name; =counts prints the counts alone'
 complete -c hek -n '__fish_seen_subcommand_from history' -l order-out -r -F -d 'writes the order that was found, a line for each transaction; - is standard output, after the verdict'
 complete -c hek -n '__fish_seen_subcommand_from history' -l json -d 'writes the verdict as JSON, one object on each line'

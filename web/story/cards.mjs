@@ -58,11 +58,14 @@ export function saidOutcome(outcome, { orders }) {
 /** The height of a bar with its words, in the size of ordinary text. */
 export const BAR = 1.45;
 
-/** The names before the marks of a bar, in so much room with `rest` after them: whole if they are short beside the bars, with a sign where they are cut, or none. */
+// How names are cut: to their beginning, or to their first letter and their end, as the machine's panels have them where there is no room for a sign.
+const CUTS = [(name) => `${name.slice(0, 2)}.`, (name) => `${name[0]}…${name.slice(-1)}`, (name) => `${name[0]}…${name.slice(-2)}`, (name) => name[0] + name.slice(-1)];
+
+/** The names before the marks of a bar, in so much room with `rest` after them: whole if they are short beside the bars, cut so that they differ, or none. */
 function namesIn(names, widthOf, room, rest) {
-  const sum = (all) => all.reduce((so, it) => so + widthOf(it), 0), cuts = names.map((name) => (name.length > 3 ? `${name.slice(0, 2)}.` : name));
+  const sum = (all) => all.reduce((so, it) => so + widthOf(it), 0), cuts = CUTS.map((cutOf) => names.map((name) => (name.length > 3 ? cutOf(name) : name)));
   if (sum(names) <= 0.4 * room) return names;
-  return sum(cuts) + rest <= room ? cuts : names.map(() => "");
+  return cuts.find((all) => new Set(all).size === all.length && sum(all) + rest <= room) ?? names.map(() => "");
 }
 
 const marked = (name, mark) => `${name} ${mark}`.trim();

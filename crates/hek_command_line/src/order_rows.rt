@@ -128,7 +128,7 @@ The status is 0 if the log is serializable, or all that is asked for holds, 1 if
         given!("no-sessions" => Form::Flag, "has sessions not bind"),
         given!("guarantees" => Form::Flag, "prints a line for each guarantee of sessions; after the levels, if they are asked for too"),
         given!("order" => Form::Valued("KIND", Value::Words("order", &["any", "versions", "real", "versions,real"], &[])), "says which order binds: any, versions, real, or versions,real; without it versions, where the log knows them"),
-        given!("effort" => Form::Valued("N", Value::Number("how many repairs at most", 1, ANY)), "tries up to N repairs of an order before it gives up; without it 100000, and one for each transaction"),
+        given!("effort" => Form::Valued("N", Value::Number("how many repairs at most", 1, ANY)), "tries up to N repairs of an order before it gives up; without it 20000, and 12 for each transaction"),
         given!("all" => Form::Choice(Extent::WORDS), "goes on after an anomaly, without the answers on which it rests, and counts them by name; =counts prints the counts alone"),
         given!("order-out" => Form::Valued("OUT", Value::File), "writes the order that was found, a line for each transaction; - is standard output, after the verdict"),
         given!("json" => Form::Flag, "writes the verdict as JSON, one object on each line"),

@@ -54,14 +54,20 @@ impl Asked {
     }
 }
 
-/// How many repairs of an order a search tries at least where the words don't say.
-const EFFORT: usize = 100_000;
+/// How many repairs of an order a search tries where the words don't say: so many, and so many more for each transaction. A log of 3,000
+/// transactions is then given up at each level within seconds, and one of 4,500 scans that miss what others insert is judged.
+const EFFORT: usize = 20_000;
+
+const EFFORT_OF_EACH: usize = 12;
 
 /// How many repairs of an order a search of a history tries: where the words don't say, the more the larger it is.
 pub(crate) fn effort_for(chosen: Option<usize>, history: &History) -> usize {
     match chosen {
         Some(effort) => effort,
-        None => EFFORT.saturating_add(history.transactions.len()),
+        None => {
+            let count = history.transactions.len();
+            EFFORT.saturating_add(count.saturating_mul(EFFORT_OF_EACH))
+        }
     }
 }
 

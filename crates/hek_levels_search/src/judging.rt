@@ -88,6 +88,9 @@ const AT_FIRST: usize = 4;
 /// Over how many places of a guess a transaction is assumed to take place, where nothing else helps.
 const WIDTHS: [u64; 2] = [24, 100];
 
+/// Into how many parts the effort of the search that assumes nothing is divided: each one that assumes something has a part.
+const SHARES: usize = 16;
+
 /// The lane of turns that are assumed.
 const ASSUMED: usize = usize::MAX - 1;
 
@@ -388,10 +391,10 @@ fn seek(
     ensures { IfOk result (λ turned. IsTurned question.entry.asked.now question.entry.log.now turned) }
 {
     let problem = problem_of(question, listed, assumed)?;
-    let mut known = prepared(question.alloc, &problem, hints);
+    let is_assuming = !assumed.is_empty();
+    let mut known = prepared(question.alloc, &problem, hints, is_assuming);
     let mut replay = Replay::new(question.alloc);
     let outcome = known.seek(question.effort, &mut replay)?;
-    let is_assuming = !assumed.is_empty();
     turn_outcome(question, &known, &mut replay, outcome, is_assuming, most)
 }
 
@@ -527,7 +530,11 @@ fn by_all_searches(question: Question<'_>, listed: &mut Listed) -> Result<Verdic
     if is_known(&found) {
         return Ok(found);
     }
-    let assumed = by_assumption(question, listed)?;
+    let less = Question {
+        effort: question.effort / SHARES,
+        ..question
+    };
+    let assumed = by_assumption(less, listed)?;
     if is_known(&assumed) {
         return Ok(assumed);
     }

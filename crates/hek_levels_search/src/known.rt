@@ -63,6 +63,8 @@ pub(crate) struct Known<'a> {
     pub alloc: Global,
     pub problem: &'a Problem<'a>,
     pub hints: &'a [Hint],
+    /// Whether something is assumed: then nobody asks why there is no order.
+    pub is_assuming: bool,
     pub node_hints: Vec<u64>,
     pub nodes: Nodes,
     pub clock: Clock,

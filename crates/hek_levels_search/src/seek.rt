@@ -46,8 +46,10 @@ impl Known<'_> {
             self.graph.set_order(sorting.order.as_slice());
             return Ok(());
         }
-        self.find_short_cycle(sorting.held.as_slice())?;
-        self.cite_path()?;
+        if !self.is_assuming {
+            self.find_short_cycle(sorting.held.as_slice())?;
+            self.cite_path()?;
+        }
         self.contradict(Rule::Cycle)
     }
 

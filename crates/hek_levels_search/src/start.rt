@@ -44,11 +44,13 @@ pub(crate) fn prepared<'a>(
     alloc: Global,
     problem: &'a Problem<'a>,
     hints: &'a [Hint],
+    is_assuming: bool,
 ) -> Known<'a> {
     Known {
         alloc,
         problem,
         hints,
+        is_assuming,
         node_hints: Vec::new(alloc),
         nodes: Nodes::new(alloc),
         clock: Clock::new(alloc),

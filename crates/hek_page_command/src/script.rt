@@ -391,9 +391,11 @@ const sorted = (outcomes) => [...outcomes].sort((one, other) => isBroken(other) 
 const rowsOf = ({ rows }) => rows.map(([key, value]) => `${key}=${value}`).join(" "); function saidOutcome(outcome, { orders }) {
   const ends = outcome.ends.map(({ txn, end }) => `${txn} ${end}`).join(", "), broken = outcome.breaks ? `; breaks line ${outcome.breaks}` : "";
   return `${grouped(outcome.orders)} of ${grouped(orders)} orders: ${ends}; ${rowsOf(outcome)}; ${VERDICTS[verdictKind(outcome.verdict)]}${broken}`; }
-const BAR = 1.45; function namesIn(names, widthOf, room, rest) {
-  const sum = (all) => all.reduce((so, it) => so + widthOf(it), 0), cuts = names.map((name) => (name.length > 3 ? `${name.slice(0, 2)}.` : name));
-  if (sum(names) <= 0.4 * room) return names; return sum(cuts) + rest <= room ? cuts : names.map(() => ""); }
+const BAR = 1.45;
+const CUTS = [(name) => `${name.slice(0, 2)}.`, (name) => `${name[0]}…${name.slice(-1)}`, (name) => `${name[0]}…${name.slice(-2)}`, (name) => name[0] + name.slice(-1)];
+function namesIn(names, widthOf, room, rest) {
+  const sum = (all) => all.reduce((so, it) => so + widthOf(it), 0), cuts = CUTS.map((cutOf) => names.map((name) => (name.length > 3 ? cutOf(name) : name)));
+  if (sum(names) <= 0.4 * room) return names; return cuts.find((all) => new Set(all).size === all.length && sum(all) + rest <= room) ?? names.map(() => ""); }
 const marked = (name, mark) => `${name} ${mark}`.trim(); function bars(counted, names, w, u, isHere = () => false) {
   const size = S * u, high = BAR * u, all = sorted(counted.outcomes), most = Math.max(...all.map((it) => it.orders)), alike = new Set(all.map((it) => it.ends.map(({ end }) => end).join())).size < all.length;
   const isOther = (outcome) => verdictKind(outcome.verdict) === "other", countOf = (outcome) => `${isBroken(outcome) ? "✗ " : ""}${grouped(outcome.orders)}`;
@@ -1534,7 +1536,7 @@ function laneHead(id, y, { laneH: h, gutter, u, isPhone, tight }) {
   const tokenW = short === it.name || isPhone ? 0 : widthOf(short, 0.9 * u, 700) + 0.6 * u;
   const room = gutter - tokenW - 0.8 * u;
   const big = [1.5 * u, 1.2 * u, 0.95 * u].find((size) => widthOf(it.name, size, 700) <= room) ?? 0.95 * u;
-  const name = fitting([it.name, it.name.slice(0, 9) + "\u2026", it.name.slice(0, 6), short], room, big, 700) || short;
+  const name = fitting([it.name, it.name.slice(0, 9) + "\u2026", it.name.slice(0, 5) + "\u2026", short], room, big, 700) || short;
   const parts = [`<g class="head ${colourOf(id)}" data-txn="${id}" role="button" tabindex="0" aria-label="transaction ${esc(it.name)}, ${esc(it.level)}, ${esc(it.state)}: all its fields">`];
   parts.push(`<rect class="hit" x="0" y="${f1(y)}" width="${f1(gutter - 0.3 * u)}" height="${f1(h)}"/>`);
   parts.push(`<text class="lane-name" x="${f1(0.2 * u)}" y="${f1(y + 1.35 * u)}" style="font-size:${f1(big)}px">${esc(name)}</text>`);
@@ -1555,12 +1557,14 @@ function laneHead(id, y, { laneH: h, gutter, u, isPhone, tight }) {
   if (it.commits) said.push(`<tspan class="warn">depends ${it.commits}</tspan>`);
   if (it.doomed && it.kind !== "aborted") said.push(`<tspan class="bad">must abort</tspan>`);
   const front = tight || (level && !said.length) ? state : level ? "" : it.level;
-  const facts = [front, ...(tight ? said.slice(-1) : said)].filter(Boolean).join(" \u00b7 ");
-  parts.push(`<text class="lane-facts" x="${f1(0.2 * u)}" y="${f1(y + (tight ? 2.5 : 2.75) * u)}">${facts}</text>`);
+  const facts = [front, ...(tight ? said.slice(-1) : said)].filter(Boolean);
+  // What has no room beside the cards: the last fact tells most.
+  while (facts.length > 1 && widthOf(facts.join(" \u00b7 ").replace(/<[^>]*>/g, ""), u) > gutter - 0.3 * u) facts.shift();
+  parts.push(`<text class="lane-facts" x="${f1(0.2 * u)}" y="${f1(y + (tight ? 2.5 : 2.75) * u)}">${facts.join(" \u00b7 ")}</text>`);
   return parts.join("") + "</g>";
 }
 
-const PHASES = { active: ["active", "act"], finished: ["finished", "fin"], preparing: ["preparing", "prep"], committed: ["committed", "com"], aborted: ["aborted", "abo"] };
+const PHASES = { active: ["active", "act\u2026"], finished: ["finished", "fin\u2026"], preparing: ["preparing", "prep\u2026"], committed: ["committed", "com\u2026"], aborted: ["aborted", "abo\u2026"] };
 
 /** The parts of the strip of a lane: its phases, each with its pattern and, where lanes are high, its name. */
 function laneStrip(id, y, { stripH: h, x, xEdge, first, shownLast, horizon, u, cell, tight }) {
@@ -1659,7 +1663,7 @@ function chainLayout(step, sights, time) {
   const k = isPhone ? 1 : Math.max(1, Math.min(1.28, each / (3.3 * u), (W / u - 20) / 19));
   const rowH = isPhone ? least * 1.15 : Math.min(each, 6.4 * u * k);
   const narrow = W < 36 * u;
-  const usual = (isPhone ? 6.7 : narrow ? 8.5 : 9.2) * u * k;
+  const usual = (isPhone ? 7 : narrow ? 8.5 : 9.2) * u * k;
   const values = longest ? Math.max(usual, (longest + 2.6) * u * k) : usual;
   const r = Math.min(rowH * 0.36, 0.9 * u * k);
   const marks = { from: values, readers: narrow || isPhone ? 2 : 3, r, wide: marksWidth(narrow || isPhone ? 2 : 3, r, u * k) };
@@ -1743,7 +1747,7 @@ function showChains() {
     for (const { key, versions } of keys) {
       out.push(`<line class="rule" x1="0" x2="${W}" y1="${f1(y)}" y2="${f1(y)}"/>`);
       if (longestNumber()) out.push(`<text class="keyname" x="${f1(0.3 * u)}" y="${f1(y + rowH / 2 - 0.15 * u * k)}" style="font-size:${f1(LONG.size * u * k)}px">${esc(fitting([`key ${key}`, key], marks.from - 0.5 * u, LONG.size * u * k) || key)}</text>`);
-      else out.push(`<text class="keyname" x="${f1(0.3 * u)}" y="${f1(y + rowH / 2 + 0.38 * u * k)}">${esc(fitting([`key ${key}`, key, ...[5, 4, 3, 2].map((count) => key.slice(0, count) + "\u2026")], marks.from - (isPhone ? 4.5 : narrow ? 4.9 : 5.4) * u * k, u * k))}</text>`);
+      else out.push(`<text class="keyname" x="${f1(0.3 * u)}" y="${f1(y + rowH / 2 + 0.38 * u * k)}">${esc(fitting([`key ${key}`, key, ...[5, 4, 3, 2].map((count) => key.slice(0, count) + "\u2026")], marks.from - (isPhone ? 4.8 : narrow ? 4.9 : 5.4) * u * k, u * k))}</text>`);
       for (const version of versions) {
         const [under, over] = versionRow(version, y, rowH, { u: u * k, W, X, endX, futureX, left, right, marks, sights, actor, isPhone, narrow, now, readers, lookX });
         out.push(under);
@@ -1756,7 +1760,10 @@ function showChains() {
   if (lookX !== null) {
     out.push(`<g class="look ${colourOf(actor)}"><line x1="${f1(lookX)}" x2="${f1(lookX)}" y1="${f1(1.3 * u)}" y2="${f1(foot)}"/><path d="${arrowTip(lookX, foot, false, 0.6 * u)}"/></g>`, ...tokens.splice(0));
     const isNow = time === now;
-    out.push(`<g class="look ${colourOf(actor)}"><rect class="plate" x="${f1(plate.from)}" y="${f1(0.04 * u)}" width="${f1(plate.wide)}" height="${f1(1.26 * u)}" rx="${f1(0.3 * u)}"/><text class="looktext" x="${f1(plate.from + plate.wide / 2)}" y="${f1(0.98 * u)}" text-anchor="middle">${esc(plate.text)}</text>${!lookH ? "" : plateTick(isNow ? (unit > 2.05 * u ? `now ${time}` : `${time}`) : `${time}`, lookX, lookH, u, isNow)}</g>`);
+    const tick = `${isNow && unit > 2.05 * u ? "now " : ""}${time}`;
+    // Where the time that is now would touch the tick, the plate alone says the time of the look.
+    const isTick = lookH > 0 && (isNow || X(now) - lookX > (nowWide + widthOf(tick, 1.05 * u, 700)) / 2 + 0.4 * u);
+    out.push(`<g class="look ${colourOf(actor)}"><rect class="plate" x="${f1(plate.from)}" y="${f1(0.04 * u)}" width="${f1(plate.wide)}" height="${f1(1.26 * u)}" rx="${f1(0.3 * u)}"/><text class="looktext" x="${f1(plate.from + plate.wide / 2)}" y="${f1(0.98 * u)}" text-anchor="middle">${esc(plate.text)}</text>${isTick ? plateTick(tick, lookX, lookH, u, isNow) : ""}</g>`);
   }
   out.push(...tokens);
   if (it.hidden) out.push(`<text class="tick" x="${f1(0.2 * u)}" y="${f1(lookH + 1.05 * u)}">+ ${it.hidden} more</text>`);
@@ -1799,7 +1806,7 @@ function versionRow(it, y, h, at) {
   if (longestNumber()) {
     const [line, type] = [y + h / 2 + 0.68 * u, `style="font-size:${f1(LONG.size * u)}px"`];
     out.push(`<text class="vname" x="${f1(0.3 * u)}" y="${f1(line)}" ${type}>v${it.v}</text><text class="value" x="${f1(marks.from - 0.35 * u)}" y="${f1(line)}" text-anchor="end" ${type}>${esc(it.value)}</text>`);
-  } else out.push(`<text class="vname" x="${f1(marks.from - (isPhone ? 4.1 : narrow ? 4.6 : 5) * u)}" y="${f1(base)}">v${it.v}</text><text class="value" x="${f1(marks.from - 0.35 * u)}" y="${f1(base)}" text-anchor="end">${esc(fitting([it.value, ...[4, 3, 2].map((count) => it.value.slice(0, count) + "\u2026")], 3.1 * u, 1.15 * u, 700) || "\u2026")}</text>`);
+  } else out.push(`<text class="vname" x="${f1(marks.from - (isPhone ? 4.4 : narrow ? 4.6 : 5) * u)}" y="${f1(base)}">v${it.v}</text><text class="value" x="${f1(marks.from - 0.35 * u)}" y="${f1(base)}" text-anchor="end">${esc(fitting([it.value, ...[4, 3, 2].map((count) => it.value.slice(0, count) + "\u2026")], 3.1 * u, 1.15 * u, 700) || "\u2026")}</text>`);
   const barH = Math.min(h * 0.72, 3.5 * u);
   const barY = y + (h - barH) / 2;
   // from where
@@ -1944,7 +1951,7 @@ function bucketHead(bucket, y, { u, W, bucketH, narrow, isPhone }) {
   const most = narrow || isPhone ? 3 : 6;
   const out = [`<g class="bucket${bucketMoved(bucket, here) ? " moved" : ""}" style="font-size:${f1(u)}px"><title>${esc(bucketSaid(bucket, here))}</title><rect class="head" x="0.7" y="${f1(y + 1)}" width="${f1(W - 1.4)}" height="${f1(bucketH - 1)}" rx="${f1(0.3 * u)}"/>`];
   let x = 0.4 * u;
-  const say = (text, name = "vname") => { out.push(`<text class="${name}" x="${f1(x)}" y="${base}">${text}</text>`); x += widthOf(text, u, name === "value" ? 700 : 400) + 0.5 * u; };
+  const say = (text, name = "vname") => { out.push(`<text class="${name}" x="${f1(x)}" y="${base}">${text}</text>`); x += widthOf(text, u, name === "bucketname" ? 700 : 400) + 0.5 * u; };
   const show = (ids) => { const [html, next] = tokensOf(ids, x, mid, r, u * 0.94, most); out.push(html); x = next + 0.5 * u; };
   say(`bucket ${bucket}`, "bucketname");
   if (holders.length) { say(narrow || isPhone ? "locked:" : "locked by"); show(holders); } else say("no lock");
@@ -2114,7 +2121,7 @@ function graphNode(id, at, isHit) {
   if (at.isWide && Math.abs(x - W / 2) > W / 3.4) return withNote(noteAtEdge(x, y, at, isWhole ? [phase] : [name, short], isHit || it.doomed));
   const beside = [...spot.values()].filter((o) => (o.x - x) * side > 1 && Math.abs(o.y - y) < r + 0.55 * u).map((o) => Math.abs(o.x - x) - r);
   const room = isBelow ? (isLow ? 0 : Math.min((gap || 8 * u) - 0.3 * u, 2 * Math.min(x, W - x))) : (at.isWide ? Math.abs(x - W / 2) : Math.min(side < 0 ? x : W - x, ...beside)) - r - 0.45 * u;
-  const note = fitting(isWhole ? [phase, phase.slice(0, 4)] : [`${name}, ${phase}`, name], room, u);
+  const note = fitting(isWhole ? [phase, ...[4, 3].map((count) => `${phase.slice(0, count)}\u2026`)] : [`${name}, ${phase}`, name], room, u);
   return withNote(nodeNote(note, isBelow ? x : x + side * (r + 0.35 * u), isBelow ? y + r + 1.1 * u : y + 0.33 * u, isBelow ? "middle" : side < 0 ? "end" : "start", u, isHit || it.doomed));
 }
 
@@ -2468,6 +2475,20 @@ function outcomeOf(outcome) {
   return `${said}<span class="soft"> \u00b7 ${esc(rowsAtEnd(outcome))}${isPlain ? "" : ` \u00b7 <b>${esc(verdictOf(outcome))}</b>`}</span>`;
 }
 
+/** An outcome for a line that may be cut: what differs among the outcomes alone, and first what tells it from those in which the same transactions commit. */
+function tellingOf(outcome) {
+  const differs = (outcomes) => (of) => new Set(outcomes.map(of)).size > 1, isTelling = differs(data.outcomes);
+  const telling = ({ ends }) => ends.filter((_, t) => isTelling((it) => it.ends[t].end)), valueIn = ({ rows }, key) => rows.find((it) => it[0] === key)?.[1];
+  const marks = (it) => telling(it).map(({ txn, end }) => `${shortTag(txn)} ${end === "committed" ? "\u2713" : end === "unended" ? "\u2013" : "\u2717"}`).join(" ");
+  const isNeeded = differs(data.outcomes.filter((it) => marks(it) === marks(outcome)));
+  const others = [
+    ({ rows }) => rowsAtEnd({ rows: rows.filter(([key]) => isTelling((it) => valueIn(it, key))) }),
+    (it) => telling(it).map(({ end }) => end).filter((end) => end.startsWith("aborted ")).map((end) => end.slice(8)).join(", "),
+    (it) => verdictOf(it).replace("serializable in", "in"),
+  ].filter(isTelling).sort((one, other) => isNeeded(other) - isNeeded(one));
+  return [marks(outcome), ...others.map((of) => esc(of(outcome)))].filter(Boolean).join(" \u00b7 ") || outcomeOf(outcome);
+}
+
 const letterOf = (outcome) => "ABCDEFGHIJKLMNOPQRSTUVWXYZ"[outcome] ?? String(outcome);
 let isSecret = false;
 
@@ -2504,7 +2525,9 @@ function ordersSaid(reach, place) {
   const all = total(tree.nodes[0].counts);
   if (tree.isMerged && place === 0) return `${all} orders${statesSaid()}`;
   return tree.isMerged && all > 1e9 ? `${reach} orders left` : `${reach} of ${all} orders left`;
-}
+"#;
+
+pub(crate) const SCRIPT_FOURTH: &str = r##"}
 
 /** Two orders of more moves are said without what they have in common at the start; their names, if they have more letters, in short. */
 const MOST_MOVES = 8;
@@ -2532,9 +2555,7 @@ function showTree() {
   const crumbs = order.map((name, index) => {
     const nth = order.slice(0, index).filter((it) => it === name).length;
     return `<button type="button" data-crumb="${index + 1}" class="${index + 1 <= place ? "" : "ahead"}"${index + 1 === place ? ' aria-current="true"' : ""}>${tagName(name)} ${esc(tree.moves[tree.names.indexOf(name)][nth])}</button>`;
-"#;
-
-pub(crate) const SCRIPT_FOURTH: &str = r##"  });
+  });
   $("path").hidden = false;
   $("path").innerHTML = `<button type="button" data-crumb="0"${place === 0 ? ' aria-current="true"' : ""}>start</button>${crumbs.map((it) => `<span aria-hidden="true">\u203a</span>${it}`).join("")}<span class="space"></span><button type="button" data-do="undo"${place === 0 ? " disabled" : ""} title="Backspace">\u21b6 undo</button>`;
   const current = $("path").querySelector('[aria-current="true"]');
@@ -2563,15 +2584,17 @@ pub(crate) const SCRIPT_FOURTH: &str = r##"  });
     $("words-title").innerHTML = `Outcomes from here <small>${ordersSaid(reach, place)}</small>`;
     if (isSecret) $("words-title").textContent = "Outcomes: what do you think?";
     const shown = isSecret ? [] : outcomesShown(node.counts);
-    const rows = shown.map((at) => {
+    const rowsOf = (say) => shown.map((at) => {
       const count = node.counts[at];
-      return `<li class="${count ? "" : "out"}"><span class="n">${count}</span><span class="swatch o${at % 6}"></span><b>${letterOf(at)}</b><span class="what">${outcomeOf(data.outcomes[at])}</span><button type="button" data-find="${at}"${count ? "" : " disabled"}>find one</button><span class="rail"><i class="o${at % 6}" style="width:${f1((100 * count) / Math.max(reach, 1))}%"></i></span></li>`;
+      return `<li class="${count ? "" : "out"}"><span class="n">${count}</span><span class="swatch o${at % 6}"></span><b>${letterOf(at)}</b><span class="what" title="${esc(outcomeText(data.outcomes[at]))}">${say(data.outcomes[at])}</span><button type="button" data-find="${at}"${count ? "" : " disabled"}>find one</button><span class="rail"><i class="o${at % 6}" style="width:${f1((100 * count) / Math.max(reach, 1))}%"></i></span></li>`;
     });
     const left = isSecret ? 0 : data.outcomes.length - shown.length;
     const digits = Math.max(...shown.map((at) => String(tree.nodes[0].counts[at]).length));
-    put("word", `<ul class="outcomes${data.outcomes.length > 3 ? " many" : ""}"${digits > 3 ? ` style="--digits:${digits}"` : ""}>${rows.join("")}${left ? `<li class="rest soft">and ${left} more</li>` : ""}</ul>`);
+    const listed = (say, isMany) => put("word", `<ul class="outcomes${isMany ? " many" : ""}"${digits > 3 ? ` style="--digits:${digits}"` : ""}>${rowsOf(say).join("")}${left ? `<li class="rest soft">and ${left} more</li>` : ""}</ul>`);
+    listed(outcomeOf, data.outcomes.length > 3);
     // Lines that are broken may need more room than there is.
     if (!isSmall() && $("word").scrollHeight > $("word").clientHeight + 2) $("word").firstElementChild.classList.add("many");
+    if ([...$("word").querySelectorAll(".many .what")].some((it) => it.scrollWidth > it.clientWidth + 1)) listed(tellingOf, true);
   }
 }
 

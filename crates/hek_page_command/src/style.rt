@@ -90,7 +90,7 @@ pub(crate) const STYLE: &str = r#"/* Written by tools/assets. */
   .st-bar nav { order: 8; flex: 1 1 auto; }
   .st-bar nav button { flex: 1 1 auto; padding: 0.35rem 0.3rem; min-width: 2.2rem; }
   .st-bar > button { order: 9; padding: 0.35rem 0.4rem; }
-  .st-bar > #more { order: 1; }
+  .st-bar > :is(#more, #st-back) { order: 1; }
   .st-bar :is(#st-end, #st-compare, #st-machine) { font-size: var(--s); }
   #st-position { min-width: 3.4rem; }
   #st-which { flex-basis: 100%; order: 10; } #st-which:empty { display: none; }
@@ -330,7 +330,7 @@ kbd { display: inline-block; min-width: 1.5em; text-align: center; border: 1px s
 .outcomes .out { color: var(--soft); } .outcomes .out .swatch { visibility: hidden; }
 .outcomes[style] li { grid-template-columns: calc(var(--digits) * 0.63rem) 1rem 1rem 1fr auto; } .outcomes[style] .n { font-size: 1.1rem; } @media (max-width: 62rem) { .outcomes[style] li { grid-template-columns: calc(var(--digits) * 0.52rem) 1rem 1rem 1fr auto; } .outcomes[style] .n { font-size: 0.9rem; } }
 .outcomes.many { gap: 0.2rem; margin-top: 0; } .many .rail { display: none; } .many .what { white-space: nowrap; overflow: hidden; text-overflow: ellipsis; } .many .n { font-size: 1.2rem; line-height: 1.2; } .many button { padding-top: 0.1rem; padding-bottom: 0.1rem; }
-.many .rest { display: block; padding-left: 3.1rem; }
+.many .rest { display: block; padding-left: 3.1rem; } @media (max-width: 40rem) { .many .what { white-space: normal; } }
 .tree main { grid-template-rows: auto minmax(7.4rem, 0.7fr) minmax(0, 1.3fr); }
 .final { font-size: 1.25rem; }
 .events { display: flex; flex-wrap: wrap; gap: 0.2rem; margin-top: 0.25rem !important; } .events button { font-size: 0.95rem; padding: 0 0.4rem; border-color: var(--line); } .events .waits { background: var(--warn-bg); border-color: var(--warn); } .events .aborts { border-color: var(--bad); color: var(--bad); font-weight: 700; } .events .commits { border-color: var(--com); color: var(--good); font-weight: 700; } .events [aria-current] { outline: 2px solid var(--ink); } .events .ahead { border-style: dashed; }

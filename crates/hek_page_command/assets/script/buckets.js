@@ -39,7 +39,7 @@ function bucketHead(bucket, y, { u, W, bucketH, narrow, isPhone }) {
   const most = narrow || isPhone ? 3 : 6;
   const out = [`<g class="bucket${bucketMoved(bucket, here) ? " moved" : ""}" style="font-size:${f1(u)}px"><title>${esc(bucketSaid(bucket, here))}</title><rect class="head" x="0.7" y="${f1(y + 1)}" width="${f1(W - 1.4)}" height="${f1(bucketH - 1)}" rx="${f1(0.3 * u)}"/>`];
   let x = 0.4 * u;
-  const say = (text, name = "vname") => { out.push(`<text class="${name}" x="${f1(x)}" y="${base}">${text}</text>`); x += widthOf(text, u, name === "value" ? 700 : 400) + 0.5 * u; };
+  const say = (text, name = "vname") => { out.push(`<text class="${name}" x="${f1(x)}" y="${base}">${text}</text>`); x += widthOf(text, u, name === "bucketname" ? 700 : 400) + 0.5 * u; };
   const show = (ids) => { const [html, next] = tokensOf(ids, x, mid, r, u * 0.94, most); out.push(html); x = next + 0.5 * u; };
   say(`bucket ${bucket}`, "bucketname");
   if (holders.length) { say(narrow || isPhone ? "locked:" : "locked by"); show(holders); } else say("no lock");

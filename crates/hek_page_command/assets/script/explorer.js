@@ -66,6 +66,20 @@ function outcomeOf(outcome) {
   return `${said}<span class="soft"> \u00b7 ${esc(rowsAtEnd(outcome))}${isPlain ? "" : ` \u00b7 <b>${esc(verdictOf(outcome))}</b>`}</span>`;
 }
 
+/** An outcome for a line that may be cut: what differs among the outcomes alone, and first what tells it from those in which the same transactions commit. */
+function tellingOf(outcome) {
+  const differs = (outcomes) => (of) => new Set(outcomes.map(of)).size > 1, isTelling = differs(data.outcomes);
+  const telling = ({ ends }) => ends.filter((_, t) => isTelling((it) => it.ends[t].end)), valueIn = ({ rows }, key) => rows.find((it) => it[0] === key)?.[1];
+  const marks = (it) => telling(it).map(({ txn, end }) => `${shortTag(txn)} ${end === "committed" ? "\u2713" : end === "unended" ? "\u2013" : "\u2717"}`).join(" ");
+  const isNeeded = differs(data.outcomes.filter((it) => marks(it) === marks(outcome)));
+  const others = [
+    ({ rows }) => rowsAtEnd({ rows: rows.filter(([key]) => isTelling((it) => valueIn(it, key))) }),
+    (it) => telling(it).map(({ end }) => end).filter((end) => end.startsWith("aborted ")).map((end) => end.slice(8)).join(", "),
+    (it) => verdictOf(it).replace("serializable in", "in"),
+  ].filter(isTelling).sort((one, other) => isNeeded(other) - isNeeded(one));
+  return [marks(outcome), ...others.map((of) => esc(of(outcome)))].filter(Boolean).join(" \u00b7 ") || outcomeOf(outcome);
+}
+
 const letterOf = (outcome) => "ABCDEFGHIJKLMNOPQRSTUVWXYZ"[outcome] ?? String(outcome);
 let isSecret = false;
 
@@ -159,15 +173,17 @@ function showTree() {
     $("words-title").innerHTML = `Outcomes from here <small>${ordersSaid(reach, place)}</small>`;
     if (isSecret) $("words-title").textContent = "Outcomes: what do you think?";
     const shown = isSecret ? [] : outcomesShown(node.counts);
-    const rows = shown.map((at) => {
+    const rowsOf = (say) => shown.map((at) => {
       const count = node.counts[at];
-      return `<li class="${count ? "" : "out"}"><span class="n">${count}</span><span class="swatch o${at % 6}"></span><b>${letterOf(at)}</b><span class="what">${outcomeOf(data.outcomes[at])}</span><button type="button" data-find="${at}"${count ? "" : " disabled"}>find one</button><span class="rail"><i class="o${at % 6}" style="width:${f1((100 * count) / Math.max(reach, 1))}%"></i></span></li>`;
+      return `<li class="${count ? "" : "out"}"><span class="n">${count}</span><span class="swatch o${at % 6}"></span><b>${letterOf(at)}</b><span class="what" title="${esc(outcomeText(data.outcomes[at]))}">${say(data.outcomes[at])}</span><button type="button" data-find="${at}"${count ? "" : " disabled"}>find one</button><span class="rail"><i class="o${at % 6}" style="width:${f1((100 * count) / Math.max(reach, 1))}%"></i></span></li>`;
     });
     const left = isSecret ? 0 : data.outcomes.length - shown.length;
     const digits = Math.max(...shown.map((at) => String(tree.nodes[0].counts[at]).length));
-    put("word", `<ul class="outcomes${data.outcomes.length > 3 ? " many" : ""}"${digits > 3 ? ` style="--digits:${digits}"` : ""}>${rows.join("")}${left ? `<li class="rest soft">and ${left} more</li>` : ""}</ul>`);
+    const listed = (say, isMany) => put("word", `<ul class="outcomes${isMany ? " many" : ""}"${digits > 3 ? ` style="--digits:${digits}"` : ""}>${rowsOf(say).join("")}${left ? `<li class="rest soft">and ${left} more</li>` : ""}</ul>`);
+    listed(outcomeOf, data.outcomes.length > 3);
     // Lines that are broken may need more room than there is.
     if (!isSmall() && $("word").scrollHeight > $("word").clientHeight + 2) $("word").firstElementChild.classList.add("many");
+    if ([...$("word").querySelectorAll(".many .what")].some((it) => it.scrollWidth > it.clientWidth + 1)) listed(tellingOf, true);
   }
 }
 

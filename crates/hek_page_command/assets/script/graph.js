@@ -132,7 +132,7 @@ function graphNode(id, at, isHit) {
   if (at.isWide && Math.abs(x - W / 2) > W / 3.4) return withNote(noteAtEdge(x, y, at, isWhole ? [phase] : [name, short], isHit || it.doomed));
   const beside = [...spot.values()].filter((o) => (o.x - x) * side > 1 && Math.abs(o.y - y) < r + 0.55 * u).map((o) => Math.abs(o.x - x) - r);
   const room = isBelow ? (isLow ? 0 : Math.min((gap || 8 * u) - 0.3 * u, 2 * Math.min(x, W - x))) : (at.isWide ? Math.abs(x - W / 2) : Math.min(side < 0 ? x : W - x, ...beside)) - r - 0.45 * u;
-  const note = fitting(isWhole ? [phase, phase.slice(0, 4)] : [`${name}, ${phase}`, name], room, u);
+  const note = fitting(isWhole ? [phase, ...[4, 3].map((count) => `${phase.slice(0, count)}\u2026`)] : [`${name}, ${phase}`, name], room, u);
   return withNote(nodeNote(note, isBelow ? x : x + side * (r + 0.35 * u), isBelow ? y + r + 1.1 * u : y + 0.33 * u, isBelow ? "middle" : side < 0 ? "end" : "start", u, isHit || it.doomed));
 }
 

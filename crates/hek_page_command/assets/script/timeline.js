@@ -255,7 +255,7 @@ function laneHead(id, y, { laneH: h, gutter, u, isPhone, tight }) {
   const tokenW = short === it.name || isPhone ? 0 : widthOf(short, 0.9 * u, 700) + 0.6 * u;
   const room = gutter - tokenW - 0.8 * u;
   const big = [1.5 * u, 1.2 * u, 0.95 * u].find((size) => widthOf(it.name, size, 700) <= room) ?? 0.95 * u;
-  const name = fitting([it.name, it.name.slice(0, 9) + "\u2026", it.name.slice(0, 6), short], room, big, 700) || short;
+  const name = fitting([it.name, it.name.slice(0, 9) + "\u2026", it.name.slice(0, 5) + "\u2026", short], room, big, 700) || short;
   const parts = [`<g class="head ${colourOf(id)}" data-txn="${id}" role="button" tabindex="0" aria-label="transaction ${esc(it.name)}, ${esc(it.level)}, ${esc(it.state)}: all its fields">`];
   parts.push(`<rect class="hit" x="0" y="${f1(y)}" width="${f1(gutter - 0.3 * u)}" height="${f1(h)}"/>`);
   parts.push(`<text class="lane-name" x="${f1(0.2 * u)}" y="${f1(y + 1.35 * u)}" style="font-size:${f1(big)}px">${esc(name)}</text>`);
@@ -276,12 +276,14 @@ function laneHead(id, y, { laneH: h, gutter, u, isPhone, tight }) {
   if (it.commits) said.push(`<tspan class="warn">depends ${it.commits}</tspan>`);
   if (it.doomed && it.kind !== "aborted") said.push(`<tspan class="bad">must abort</tspan>`);
   const front = tight || (level && !said.length) ? state : level ? "" : it.level;
-  const facts = [front, ...(tight ? said.slice(-1) : said)].filter(Boolean).join(" \u00b7 ");
-  parts.push(`<text class="lane-facts" x="${f1(0.2 * u)}" y="${f1(y + (tight ? 2.5 : 2.75) * u)}">${facts}</text>`);
+  const facts = [front, ...(tight ? said.slice(-1) : said)].filter(Boolean);
+  // What has no room beside the cards: the last fact tells most.
+  while (facts.length > 1 && widthOf(facts.join(" \u00b7 ").replace(/<[^>]*>/g, ""), u) > gutter - 0.3 * u) facts.shift();
+  parts.push(`<text class="lane-facts" x="${f1(0.2 * u)}" y="${f1(y + (tight ? 2.5 : 2.75) * u)}">${facts.join(" \u00b7 ")}</text>`);
   return parts.join("") + "</g>";
 }
 
-const PHASES = { active: ["active", "act"], finished: ["finished", "fin"], preparing: ["preparing", "prep"], committed: ["committed", "com"], aborted: ["aborted", "abo"] };
+const PHASES = { active: ["active", "act\u2026"], finished: ["finished", "fin\u2026"], preparing: ["preparing", "prep\u2026"], committed: ["committed", "com\u2026"], aborted: ["aborted", "abo\u2026"] };
 
 /** The parts of the strip of a lane: its phases, each with its pattern and, where lanes are high, its name. */
 function laneStrip(id, y, { stripH: h, x, xEdge, first, shownLast, horizon, u, cell, tight }) {
