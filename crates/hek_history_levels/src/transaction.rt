@@ -91,7 +91,7 @@ fn taken_of(alloc: Global, lenient: bool, operations: &[Operation]) -> Result<Ta
     Ok(taken)
 }
 
-/// A transaction as levels see it.
+/// A transaction as levels see it. Its lists have no more room than they need: a log has many.
 pub(crate) fn seen(
     alloc: Global,
     turns: &[Turn],
@@ -105,9 +105,9 @@ pub(crate) fn seen(
         status: transaction.status,
         fits: taken.fits,
         turns: Vec::from_slice(alloc, turns)?,
-        reads: taken.reads,
+        reads: Vec::from_slice(alloc, taken.reads.as_slice())?,
         scans: taken.scans,
-        writes: taken.own.writes,
+        writes: Vec::from_slice(alloc, taken.own.writes.as_slice())?,
         passing: taken.own.passing,
     })
 }
