@@ -101,13 +101,16 @@ pub(crate) fn seen(
 {
     let lenient = is_lenient(transaction.level);
     let taken = taken_of(alloc, lenient, transaction.operations.as_slice())?;
+    let reads = Vec::from_slice(alloc, taken.reads.as_slice())?;
+    let own = taken.own;
+    let writes = Vec::from_slice(alloc, own.writes.as_slice())?;
     Ok(hek_levels::Transaction {
         status: transaction.status,
         fits: taken.fits,
         turns: Vec::from_slice(alloc, turns)?,
-        reads: Vec::from_slice(alloc, taken.reads.as_slice())?,
+        reads,
         scans: taken.scans,
-        writes: Vec::from_slice(alloc, taken.own.writes.as_slice())?,
-        passing: taken.own.passing,
+        writes,
+        passing: own.passing,
     })
 }
