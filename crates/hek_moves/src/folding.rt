@@ -277,7 +277,7 @@ fn why_so(
     } else {
         say_why(alloc, step, kind, list, moves, &mut words)?;
     }
-    words.done()?;
+    words.text.done()?;
     Ok(why)
 }
 

@@ -214,7 +214,7 @@ fn put_words(
     let mut said = Vec::new(alloc);
     let mut words = Sentence::new(schedule, &mut said);
     say(made, moves, line_of(made, lines), &mut words);
-    match words.done() {
+    match words.text.done() {
         Ok(()) => out.put_bytes("say", said.as_slice()),
         Err(_) => out.lack_memory(),
     }

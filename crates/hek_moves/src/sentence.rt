@@ -1,12 +1,13 @@
 //! A sentence that grows word by word.
 use hek_report::{Hole, Text, is_named};
-use hek_rules::{NoMemory, Schedule, TxnId};
+use hek_rules::{Schedule, TxnId};
 
 /// Words of a run: its transactions are named as its schedule names them, in braces, which no name has.
 #[derive(Drop)]
 pub(crate) struct Sentence<'a> {
     schedule: &'a Schedule,
-    text: Text<'a>,
+    /// The words so far; its `done` says whether memory sufficed for them.
+    pub(crate) text: Text<'a>,
 }
 
 impl<'a> Sentence<'a> {
@@ -15,12 +16,6 @@ impl<'a> Sentence<'a> {
             schedule,
             text: Text::after(words),
         }
-    }
-
-    /// Says whether memory sufficed for all words.
-    pub(crate) fn done(self) -> Result<(), NoMemory> {
-        let Sentence { schedule: _, text } = self;
-        text.done()
     }
 
     /// A transaction's name in braces; its number if the schedule doesn't declare it.

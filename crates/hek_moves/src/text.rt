@@ -45,7 +45,7 @@ fn put_move_line(
     let mut said = Vec::new(alloc);
     let mut words = Sentence::new(schedule, &mut said);
     say(made, moves, line_of(made, lines), &mut words);
-    words.done()?;
+    words.text.done()?;
     put_plain(said.as_slice(), out)?;
     out.push(b'\n')?;
     if is_told && !made.why.is_empty() {

@@ -229,19 +229,19 @@ fn say_added(txn: TxnId, added: &[TxnId], out: &mut Sentence<'_>) {
 // ---- aborts
 
 fn why_abort(cause: Cause, event: Event, reasons: &[Reason], out: &mut Sentence<'_>) {
-    let (key, met) = (Hole::Number(key_of(event)), met_in(reasons));
-    match (cause, met) {
+    let key = key_of(event);
+    match (cause, met_in(reasons)) {
         (Cause::Conflict, Some(other)) => {
             let pattern = "@ has written @ already, and isn't over: the first writer wins";
-            out.form(pattern, &[out.txn(other), key]);
+            out.form(pattern, &[out.txn(other), Hole::Number(key)]);
         }
         (Cause::Conflict, None) => {
             let pattern = "Somebody has written @ since it began: the first to commit wins";
-            out.form(pattern, &[key]);
+            out.form(pattern, &[Hole::Number(key)]);
         }
         (Cause::NoMoreReads, Some(other)) => {
             let pattern = "@ overwrites @ and is about to commit: it takes no more readers";
-            out.form(pattern, &[out.txn(other), key]);
+            out.form(pattern, &[out.txn(other), Hole::Number(key)]);
         }
         (Cause::NoMoreWaits, Some(other)) => {
             let pattern = "@ has finished and waits for nobody new; this would have made it wait";
@@ -250,7 +250,10 @@ fn why_abort(cause: Cause, event: Event, reasons: &[Reason], out: &mut Sentence<
         (Cause::NoMoreReads, None) => out.put("It takes no more readers"),
         (Cause::NoMoreWaits, None) => out.put("Somebody has finished and waits for nobody new"),
         (Cause::ReadersFull, _) => {
-            out.form("@ has as many readers as can be counted", &[key]);
+            out.form(
+                "@ has as many readers as can be counted",
+                &[Hole::Number(key)],
+            );
         }
         (Cause::Cascade, _) => why_cascade(reasons, out),
         (Cause::Asked, _) => out.put("It asked for it itself"),

@@ -26,18 +26,17 @@ pub(crate) fn put_stopped(
             put_begin_word(machine, v, text);
         }
         Met::Readers(count) => {
-            let holes = [Hole::Number(v.index()), Hole::Number(u64::from(count))];
-            text.form("version @ has @ readers", &holes);
+            text.form("version @ has @ readers", &[v.index(), u64::from(count)]);
             put_end_word(machine, v, text);
         }
         Met::EndedAt(time) => {
-            let holes = [Hole::Number(v.index()), Hole::Number(time.number())];
-            text.form("version @ was written over, at @", &holes);
+            let numbers = [v.index(), time.number()];
+            text.form("version @ was written over, at @", &numbers);
             put_end_word(machine, v, text);
         }
         Met::MadeAt(time) => {
-            let holes = [Hole::Number(v.index()), Hole::Number(time.number())];
-            text.form("version @ of the key was made at @, after ", &holes);
+            let numbers = [v.index(), time.number()];
+            text.form("version @ of the key was made at @, after ", &numbers);
             text.form("@ began", &[Hole::txn(schedule, t)]);
             put_begin_word(machine, v, text);
         }
