@@ -98,13 +98,17 @@ fn put_seen(
 }
 
 fn put_sight(schedule: &Schedule, version: VersionId, sight: Sight, text: &mut Text<'_>) {
-    let index = Hole::Number(version.index());
+    let index = version.index();
     match sight {
         Sight::Seen => text.form("@ seen\n", &[index]),
-        Sight::SeenIf(u) => text.form("@ seen if @\n", &[index, Hole::txn(schedule, u)]),
+        Sight::SeenIf(u) => {
+            let holes = [Hole::Number(index), Hole::txn(schedule, u)];
+            text.form("@ seen if @\n", &holes);
+        }
         Sight::Hidden | Sight::HiddenActive(_) => text.form("@ passed over\n", &[index]),
         Sight::HiddenIf(u) => {
-            text.form("@ passed over if @\n", &[index, Hole::txn(schedule, u)]);
+            let holes = [Hole::Number(index), Hole::txn(schedule, u)];
+            text.form("@ passed over if @\n", &holes);
         }
     }
 }
