@@ -130,25 +130,25 @@ def anomalies(folder, schedules):
         yield number, compare_stored, (f"anomalies/{it}", ["permute", "--levels", f"{schedules}/{it}.hek"], 0, f"{folder}/{it}.levels")
 
 
-# ---- lines: what a program of the gate runs in one process
+# ---- lines: telling command lines, each over the files beside it
 
 
-def compare_line(crate, line, wanted):
-    """A command line over a copy of the crate's files: all that it prints, and its status, are what is stored."""
-    with tempfile.TemporaryDirectory(prefix="cases-") as folder:
-        shutil.copytree(f"{crate}/data", folder, dirs_exist_ok=True)
-        ran = run(line.split()[1:], folder, joined=True)
+def compare_line(folder, line, wanted):
+    """A command line over a copy of the folder's files: all that it prints, and its status, are what is stored."""
+    with tempfile.TemporaryDirectory(prefix="cases-") as room:
+        shutil.copytree(f"{folder}/data", room, dirs_exist_ok=True)
+        ran = run(line.split()[1:], room, joined=True)
     came = ran.out + f"{line}: status {ran.status}\n".encode()
     return Sum(int(came == wanted), [] if came == wanted else [told(f"lines: {line}", *differing(wanted, came))], {})
 
 
-def lines(crate):
+def lines(folder):
     """The lines of the program, each with what its stored output has of it: all up to the line that ends with the status."""
-    with open(f"{crate}/stdout", "rb") as file:
+    with open(f"{folder}/stdout", "rb") as file:
         left = file.read()
-    for number, line in enumerate(open(f"{crate}/data/lines").read().splitlines(), 1):
+    for number, line in enumerate(open(f"{folder}/data/lines").read().splitlines(), 1):
         end = re.compile(rb"^" + re.escape(line.encode()) + rb": status \d+\n", re.M).search(left).end()
-        yield number, compare_line, (crate, line, left[:end])
+        yield number, compare_line, (folder, line, left[:end])
         left = left[end:]
 
 

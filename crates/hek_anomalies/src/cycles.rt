@@ -290,7 +290,7 @@ impl Cycles {
     fn add_round(&mut self, evident: &Evident, from: usize) -> Result<(), NoMemory> {
         let to = self.places.len();
         let cycle = self.edges_of(evident, from, to)?;
-        let weight = weight_of(evident, cycle.as_slice());
+        let weight = weight_of(evident, cycle);
         add(&mut self.rounds, Round { weight, from, to })
     }
 

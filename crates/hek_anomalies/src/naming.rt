@@ -4,7 +4,7 @@ use crate::cause::{CycleEdge, EdgeKind, Evidence};
 use crate::evident::Evident;
 use hek_history::Operation;
 use hek_levels::{Need, Writer};
-use hek_levels_search::{Problem, at, part};
+use hek_levels_search::{Problem, at};
 
 /// How many edges of a kind a cycle has.
 #[derive(Clone, Copy, Default)]
@@ -282,14 +282,16 @@ pub(crate) struct Weight {
     keys: usize,
 }
 
-/// How many keys a cycle is of.
-fn keys_of(cycle: &[CycleEdge]) -> usize {
+/// How many keys a cycle is of. It puts the edges in the order of their keys.
+fn keys_of(cycle: &mut Vec<CycleEdge>) -> usize {
+    cycle.sort_unstable_by_key(|edge| edge.key);
     let mut keys: usize = 0;
-    for (place, edge) in cycle.iter().enumerate() {
-        let before = part(cycle, 0, place);
-        if edge.key.is_some() && !before.iter().any(|other| other.key == edge.key) {
+    let mut before = None;
+    for edge in cycle.iter() {
+        if edge.key.is_some() && edge.key != before {
             count(&mut keys);
         }
+        before = edge.key;
     }
     keys
 }
@@ -305,15 +307,12 @@ fn weight_of_edge(edge: CycleEdge) -> usize {
 }
 
 /// The weight of a cycle: of its edges, and two for each of up to two keys.
-pub(crate) fn weight_of(evident: &Evident, cycle: &[CycleEdge]) -> Weight {
-    let keys = keys_of(cycle);
+pub(crate) fn weight_of(evident: &Evident, mut cycle: Vec<CycleEdge>) -> Weight {
+    let rank = rank_of(name_of(evident, cycle.as_slice()));
+    let keys = keys_of(&mut cycle);
     let mut weight = keys.min(2).saturating_mul(2);
-    for edge in cycle {
+    for edge in cycle.iter() {
         weight = weight.saturating_add(weight_of_edge(*edge));
     }
-    Weight {
-        weight,
-        rank: rank_of(name_of(evident, cycle)),
-        keys,
-    }
+    Weight { weight, rank, keys }
 }

@@ -1,6 +1,7 @@
 //! A note on a trace in which each transaction has what its level promises, though they can't follow one another by end time.
 use crate::verdict::transcript_of_text;
 use hek_history_report::{Together, put_phrase, together_of};
+use hek_report::Text;
 use hek_rules::{NoMemory, Schedule, Transcript, Verdict};
 use hek_serial::check;
 use std::alloc::Global;
@@ -52,10 +53,10 @@ fn line_with(
         return Ok(None);
     }
     let mut line = Vec::new(alloc);
-    line.extend_from_slice(
-        b"hek: note: each transaction got what its level promises; the outcome is ",
-    )?;
-    put_phrase(schedule, together, &mut line)?;
-    line.push(b'\n')?;
+    let mut text = Text::after(&mut line);
+    text.put("hek: note: each transaction got what its level promises; the outcome is ");
+    put_phrase(schedule, together, &mut text);
+    text.put("\n");
+    text.done()?;
     Ok(Some(line))
 }

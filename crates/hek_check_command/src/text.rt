@@ -4,10 +4,9 @@ use crate::faults::Fault;
 use crate::reported::Reported;
 use crate::sources::{Source, missing_reads};
 use hek_history_report::put_phrase;
-use hek_report::put;
+use hek_report::{Hole, Text};
 use hek_rules::NoMemory;
 use std::alloc::Global;
-use std::io::Write;
 
 /// Appends what follows the words of a verdict and their end: how much is judged, the serial reply of the first event at
 /// fault, and each event at fault.
@@ -30,13 +29,15 @@ pub(crate) fn put_rest(
 
 /// The end of the verdict's line: how much is judged, and whether the committed transactions can follow one another.
 fn put_summary(reported: &Reported<'_>, lines: &mut Vec<u8>) -> Result<(), NoMemory> {
-    let judged = reported.judged;
-    put(write!(lines, " {judged}"))?;
+    let mut text = Text::after(lines);
+    text.put(" ");
+    text.show(&reported.judged);
     if let Some(together) = reported.together {
-        put(write!(lines, "; the outcome is "))?;
-        put_phrase(reported.schedule, together, lines)?;
+        text.put("; the outcome is ");
+        put_phrase(reported.schedule, together, &mut text);
     }
-    put(writeln!(lines))
+    text.put("\n");
+    text.done()
 }
 
 /// The line with the serial reply of the first fault.
@@ -44,9 +45,11 @@ fn put_reason(faults: &[Fault], lines: &mut Vec<u8>) -> Result<(), NoMemory> {
     let Some(fault) = faults.first() else {
         return Ok(());
     };
-    put(write!(lines, "serial reply: "))?;
-    put_serial_reply(fault.serial.as_ref(), lines)?;
-    put(writeln!(lines))
+    let mut text = Text::after(lines);
+    text.put("serial reply: ");
+    put_serial_reply(fault.serial.as_ref(), text.bytes())?;
+    text.put("\n");
+    text.done()
 }
 
 /// The lines of all faults.
@@ -81,34 +84,31 @@ fn put_fault(
     fault: &Fault,
     lines: &mut Vec<u8>,
 ) -> Result<(), NoMemory> {
-    put(write!(lines, "{line}; serial reply: "))?;
-    put_serial_reply(fault.serial.as_ref(), lines)?;
+    let mut text = Text::after(lines);
+    text.form("@; serial reply: ", &[Hole::Word(line)]);
+    put_serial_reply(fault.serial.as_ref(), text.bytes())?;
     let missing = missing_reads(alloc, reported.transcript, fault)?;
     for (pair, source) in missing.read.as_slice() {
-        put_source("; read", *pair, *source, names, lines)?;
+        put_source("read", *pair, *source, names, &mut text);
     }
     for (pair, source) in missing.missed.as_slice() {
-        put_source("; missed", *pair, *source, names, lines)?;
+        put_source("missed", *pair, *source, names, &mut text);
     }
-    put(writeln!(lines))
+    text.put("\n");
+    text.done()
 }
 
-fn put_source(
-    label: &str,
-    pair: (u64, u64),
-    source: Source,
-    names: &[&str],
-    lines: &mut Vec<u8>,
-) -> Result<(), NoMemory> {
+fn put_source(label: &str, pair: (u64, u64), source: Source, names: &[&str], text: &mut Text<'_>) {
     let (key, value) = pair;
-    put(write!(lines, "{label} {key}={value}"))?;
+    let holes = [Hole::Word(label), Hole::Number(key), Hole::Number(value)];
+    text.form("; @ @=@", &holes);
     match source {
-        Source::Loaded => put(write!(lines, " loaded")),
-        Source::Nowhere => put(write!(lines, " written by none")),
+        Source::Loaded => text.put(" loaded"),
+        Source::Nowhere => text.put(" written by none"),
         Source::Write(place) => {
-            let name = names.get(place).copied().unwrap_or("");
-            let number = place.saturating_add(1);
-            put(write!(lines, " by {name} at {number}"))
+            let name = Hole::Word(names.get(place).copied().unwrap_or(""));
+            let number = Hole::Number((place as u64).saturating_add(1));
+            text.form(" by @ at @", &[name, number]);
         }
     }
 }

@@ -2,13 +2,12 @@
 use crate::commands::Command;
 use crate::pages::is_log;
 use crate::rows::{Argument, Value};
-use crate::said::{Said, digits};
-use crate::texts::{Text, pair};
+use crate::said::{Said, digits, pair};
 use clap::ArgMatches;
 use hek_diagnostics::nearest_word;
 use hek_ladder::Promise;
 use hek_permute_command::part_of;
-use hek_report::INPUT;
+use hek_report::{INPUT, Text};
 use hek_rules::number;
 use std::str;
 
@@ -222,7 +221,7 @@ fn say_words(said: &mut Said, value: &str, words: &[&'static str], more: &[&'sta
     let mut all = Vec::new(said.alloc);
     let is_short = all.extend_from_slice(words).is_err() || all.extend_from_slice(more).is_err();
     if is_short {
-        return said.lines.lack_memory();
+        return said.lack_memory();
     }
     say_list(said, all.as_slice());
     if let Some(meant) = nearest_word(said.alloc, value, all.as_slice()) {
@@ -231,11 +230,12 @@ fn say_words(said: &mut Said, value: &str, words: &[&'static str], more: &[&'sta
 }
 
 fn say_list(said: &mut Said, words: &[&str]) {
-    let mut list = Text::new(said.alloc);
+    let mut bytes = Vec::new(said.alloc);
+    let mut list = Text::after(&mut bytes);
     list.words(words);
-    let Ok(bytes) = list.take() else {
-        return said.lines.lack_memory();
-    };
+    if list.done().is_err() {
+        return said.lack_memory();
+    }
     if let Ok(list) = str::from_utf8(bytes.as_slice()) {
         said.wanted("@", &[list]);
     }

@@ -10,14 +10,14 @@ use crate::help::wrapped;
 use crate::kept::Kept;
 use crate::lock_words::advise_sign;
 use crate::manual::manual_page;
+use crate::said::pair;
 use crate::settings::{CommandWords, Settings};
 use crate::shells::completions;
 use crate::streams::Stream;
-use crate::texts::{Text, pair};
 use clap::error::ErrorKind as ClapKind;
 use clap::{ArgMatches, Error};
 use hek_debug_command::put_words;
-use hek_report::{HekFault, report, send};
+use hek_report::{HekFault, Text, report, send};
 use hek_rules::NoMemory;
 use std::alloc::Global;
 use std::convert::AsStr;
@@ -162,7 +162,8 @@ impl<D: Disk, W: Write + IsTerminal, E: Write + IsTerminal> Surroundings<'_, D, 
             Err(fault) => report(fault, &mut faults),
         };
         if explains {
-            if let Ok(lines) = suggested(alloc, error, words).take() {
+            let mut lines = Vec::new(alloc);
+            if suggest(alloc, error, words, &mut lines).is_ok() {
                 let _ = faults.write_all(lines.as_slice());
             }
         }
@@ -309,24 +310,29 @@ fn say_refused<'a, W: Write, E: Write>(
 }
 
 /// Names the command that a mistyped one means, or that reads the file in its place; or says that a number has a sign.
-fn suggested(alloc: Global, error: &Error, words: &[&str]) -> Text {
-    let mut lines = Text::new(alloc);
+fn suggest(
+    alloc: Global,
+    error: &Error,
+    words: &[&str],
+    lines: &mut Vec<u8>,
+) -> Result<(), NoMemory> {
+    let mut text = Text::after(lines);
     let Some(word) = words.get(1) else {
-        return lines;
+        return Ok(());
     };
     if error.kind() == ClapKind::UnknownArgument {
         if let Some(command) = Command::named(word) {
-            advise_sign(command, words, &mut lines);
+            advise_sign(command, words, &mut text);
         }
     }
     if error.kind() == ClapKind::InvalidSubcommand {
         if let Some(command) = reader_of(word) {
-            lines.fill("  | did you mean `@ @`?\n", &pair(command.name(), word));
+            text.form("  | did you mean `@ @`?\n", &pair(command.name(), word));
         } else if let Some(name) = meant_command(alloc, word) {
-            lines.fill("  | did you mean `@`?\n", &[name]);
+            text.form("  | did you mean `@`?\n", &[name]);
         }
     }
-    lines
+    text.done()
 }
 
 impl<'a, D: Disk, I: Read + IsTerminal + Drop, W: Write + IsTerminal, E: Write + IsTerminal> Call<

@@ -104,7 +104,7 @@ impl<'a, D: Disk, I: Read + Drop, W: Write, E: Write> Call<'_, '_, '_, 'a, D, I,
 
     /// Writes the lines of what is said. What can't be written is left out.
     fn put_lines(&mut self, said: &mut Said) {
-        if let Ok(lines) = said.lines.take() {
+        if let Ok(lines) = said.take_lines() {
             let _ = self.faults.write_all(lines.as_slice());
         }
     }

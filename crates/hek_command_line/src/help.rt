@@ -1,5 +1,5 @@
 //! Help that is wrapped at the width of a terminal.
-use crate::texts::Text;
+use hek_report::Text;
 use hek_rules::{NoMemory, number};
 use std::alloc::Global;
 use std::env;
@@ -26,19 +26,20 @@ pub fn width_of<R: Env + Alloc<A = Global>>(rt: &R) -> usize {
 
 /// The lines of a text, each of at most `width` characters where its words allow that.
 pub fn wrapped(alloc: Global, text: &str, width: usize) -> Result<Vec<u8>, NoMemory> {
-    let mut out = Text::new(alloc);
+    let mut bytes = Vec::new(alloc);
+    let mut out = Text::after(&mut bytes);
     for line in text.split('\n') {
         put_line(&mut out, line, width);
         out.put("\n");
     }
-    let mut bytes = out.take()?;
+    out.done()?;
     // The text ends with a line feed, after which it has no line.
     bytes.pop();
     Ok(bytes)
 }
 
 /// A line, with what is too long for it on further lines, under the place at which its text begins.
-fn put_line(out: &mut Text, line: &str, width: usize) {
+fn put_line(out: &mut Text<'_>, line: &str, width: usize) {
     if line.len() <= width {
         out.put(line);
         return;

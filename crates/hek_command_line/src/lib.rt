@@ -38,7 +38,6 @@ mod sought;
 mod sources;
 mod streams;
 mod system_disk;
-mod texts;
 mod words;
 
 pub use command_line::{Surroundings, program};

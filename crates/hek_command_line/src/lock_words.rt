@@ -2,10 +2,9 @@
 use crate::commands::Command;
 use crate::rows::Value;
 use crate::said::{Said, digits};
-use crate::texts::Text;
 use clap::ArgMatches;
 use hek_convert_command::hex_number;
-use hek_report::INPUT;
+use hek_report::{INPUT, Text};
 use hek_rules::number;
 
 /// Says what is wrong with the first bad word or the waits of `release` and `word`.
@@ -62,7 +61,7 @@ fn advise_turned(word: &str, found: &ArgMatches<'_>, said: &mut Said) {
 }
 
 /// Says that a number of an option has a sign, if one has.
-pub fn advise_sign(command: Command, words: &[&str], out: &mut Text) {
+pub fn advise_sign(command: Command, words: &[&str], out: &mut Text<'_>) {
     for (place, word) in words.iter().enumerate() {
         let Some(name) = word.strip_prefix("--") else {
             continue;
@@ -71,7 +70,7 @@ pub fn advise_sign(command: Command, words: &[&str], out: &mut Text) {
             return;
         };
         if is_count(command, name) && has_sign(value) {
-            out.fill(
+            out.form(
                 "  | `--@` wants a number without a sign, and `@` has one\n",
                 &[&*name, *value],
             );

@@ -3,7 +3,7 @@ use crate::arguments::{ABOUT, EXAMPLES};
 use crate::build::VERSION;
 use crate::commands::Command;
 use crate::rows::{Argument, Form, Row, Times, Value};
-use crate::texts::Text;
+use hek_report::Text;
 use hek_rules::NoMemory;
 use std::alloc::Global;
 
@@ -55,31 +55,56 @@ Print version
 
 /// The manual page, in the language of man.
 pub fn manual_page(alloc: Global) -> Result<Vec<u8>, NoMemory> {
-    let mut out = Text::new(alloc);
+    let mut bytes = Vec::new(alloc);
+    let mut out = Text::after(&mut bytes);
     let version = VERSION.split('\n').next().unwrap_or("");
-    out.fill("@@@", &[FRONT, version, SYNOPSIS]);
-    out.escaped(ABOUT, ROFF);
+    out.form("@@@", &[FRONT, version, SYNOPSIS]);
+    put_escaped(&mut out, ABOUT, ROFF);
     out.put(OPTIONS);
     for command in Command::ALL {
         put_command(&mut out, command.row());
     }
     out.put(".SH EXIT STATUS\n");
     for (status, meaning) in STATUSES {
-        out.fill(".TP\n@\n", &[status]);
-        out.escaped(meaning, ROFF);
+        out.form(".TP\n@\n", &[status]);
+        put_escaped(&mut out, meaning, ROFF);
         out.put("\n");
     }
     out.put(".SH EXAMPLES\n");
     let examples = EXAMPLES.strip_prefix("Examples:\n").unwrap_or(EXAMPLES);
     put_rest(&mut out, examples);
-    out.take()
+    out.done()?;
+    Ok(bytes)
+}
+
+/// Adds a text whose characters may stand for others.
+pub fn put_escaped(out: &mut Text<'_>, text: &str, escapes: &[(u8, &str)]) {
+    for byte in text.as_bytes() {
+        match escape_of(*byte, escapes) {
+            Some(escape) => out.put(escape),
+            None => {
+                let put = out.bytes().push(*byte);
+                out.note(put.map_err(|_| NoMemory));
+            }
+        }
+    }
+}
+
+/// What stands for a byte, if something does.
+fn escape_of<'e>(byte: u8, escapes: &[(u8, &'e str)]) -> Option<&'e str> {
+    for (one, escape) in escapes {
+        if *one == byte {
+            return Some(*escape);
+        }
+    }
+    None
 }
 
 /// The part of a command.
-fn put_command(out: &mut Text, row: &Row) {
-    out.fill(".SS @\n", &[row.name]);
-    out.escaped(row.about, ROFF);
-    out.fill(".\n.PP\n\\fBhek @", &[row.name]);
+fn put_command(out: &mut Text<'_>, row: &Row) {
+    out.form(".SS @\n", &[row.name]);
+    put_escaped(out, row.about, ROFF);
+    out.form(".\n.PP\n\\fBhek @", &[row.name]);
     put_usage(out, row);
     out.put("\\fR\n");
     for argument in row.arguments {
@@ -97,7 +122,7 @@ fn put_command(out: &mut Text, row: &Row) {
 }
 
 /// How a command is called: what it may have, the options that it needs, and its words.
-fn put_usage(out: &mut Text, row: &Row) {
+fn put_usage(out: &mut Text<'_>, row: &Row) {
     let mut may = "";
     for &Argument(_, form, _) in row.arguments {
         if !form.is_placed() && !matches!(form, Form::Needed(_, _)) {
@@ -107,15 +132,15 @@ fn put_usage(out: &mut Text, row: &Row) {
     out.put(may);
     for &Argument(name, form, _) in row.arguments {
         if let Form::Needed(value, _) = form {
-            out.fill(" \\-\\-@ <@>", &[name, value]);
+            out.form(" \\-\\-@ <@>", &[name, value]);
         }
     }
     for &Argument(name, form, _) in row.arguments {
         match form {
-            Form::Placed(Times::One, _) => out.fill(" <@>", &[name]),
-            Form::Placed(Times::Maybe, _) => out.fill(" [@]", &[name]),
-            Form::Placed(Times::Several, _) => out.fill(" <@>...", &[name]),
-            Form::Placed(Times::Any, _) => out.fill(" [@]...", &[name]),
+            Form::Placed(Times::One, _) => out.form(" <@>", &[name]),
+            Form::Placed(Times::Maybe, _) => out.form(" [@]", &[name]),
+            Form::Placed(Times::Several, _) => out.form(" <@>...", &[name]),
+            Form::Placed(Times::Any, _) => out.form(" [@]...", &[name]),
             Form::Flag | Form::Valued(_, _) | Form::Needed(_, _) | Form::Choice(_) | Form::Output =>
                 {}
         }
@@ -123,17 +148,17 @@ fn put_usage(out: &mut Text, row: &Row) {
 }
 
 /// An argument, and what it means.
-fn put_argument(out: &mut Text, argument: &Argument) {
+fn put_argument(out: &mut Text<'_>, argument: &Argument) {
     let &Argument(name, form, help) = argument;
     if form.is_placed() {
-        out.fill(".TP\n\\fI@\\fR\n", &[name]);
+        out.form(".TP\n\\fI@\\fR\n", &[name]);
     } else {
         put_option(out, name, form);
     }
-    out.escaped(help, ROFF);
+    put_escaped(out, help, ROFF);
     if let Some(Value::OneOf(words)) = form.value() {
         for (place, word) in words.iter().enumerate() {
-            out.fill(if place == 0 { " (@" } else { ", @" }, &[*word]);
+            out.form(if place == 0 { " (@" } else { ", @" }, &[*word]);
         }
         out.put(")");
     }
@@ -141,23 +166,23 @@ fn put_argument(out: &mut Text, argument: &Argument) {
 }
 
 /// The name of an option, with that of its value.
-fn put_option(out: &mut Text, name: &str, form: Form) {
+fn put_option(out: &mut Text<'_>, name: &str, form: Form) {
     out.put(".TP\n");
     if let Form::Output = form {
         out.put("\\fB\\-o\\fR, ");
     }
     out.put("\\fB\\-\\-");
-    out.escaped(name, ROFF);
+    put_escaped(out, name, ROFF);
     let value = form.value_name();
     match form {
-        Form::Choice(_) => out.fill("\\fR[=\\fI@\\fR]\n", &[value]),
+        Form::Choice(_) => out.form("\\fR[=\\fI@\\fR]\n", &[value]),
         _ if value.is_empty() => out.put("\\fR\n"),
-        _ => out.fill("\\fR \\fI@\\fR\n", &[value]),
+        _ => out.form("\\fR \\fI@\\fR\n", &[value]),
     }
 }
 
 /// A text: indented lines as they are, the others filled.
-fn put_rest(out: &mut Text, text: &str) {
+fn put_rest(out: &mut Text<'_>, text: &str) {
     let mut is_kept = false;
     for line in text.split('\n') {
         let kept = line.strip_prefix("  ");
@@ -177,7 +202,7 @@ fn put_rest(out: &mut Text, text: &str) {
 }
 
 /// A line of a text. One that begins as a command of man is said to be none.
-fn put_line(out: &mut Text, line: &str) {
+fn put_line(out: &mut Text<'_>, line: &str) {
     if line.is_empty() {
         out.put(".PP\n");
         return;
@@ -185,6 +210,6 @@ fn put_line(out: &mut Text, line: &str) {
     if line.starts_with(".") || line.starts_with("'") {
         out.put("\\&");
     }
-    out.escaped(line, ROFF);
+    put_escaped(out, line, ROFF);
     out.put("\n");
 }

@@ -132,7 +132,7 @@ fn explain_computed(name: &str, text: &[u8], number: u64, what: &str, said: &mut
     let end = line.len();
     said.excerpt(name, number, Excerpt { line, start, end });
     said.message("@: the file is a program", &[what]);
-    said.lines.put(
+    said.text(
         "  | `hek permute` plays every order of a program; `--auto` of run, debug and page plays one\n",
     );
 }

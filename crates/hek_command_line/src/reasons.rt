@@ -65,6 +65,6 @@ fn put_kind(name: &str, kind: ErrorKind, said: &mut Said) {
     let alloc = said.alloc;
     match format!(in alloc; "{kind}") {
         Ok(reason) => said.line("  ", "@: @", &[&*name, reason.as_str()]),
-        Err(_) => said.lines.lack_memory(),
+        Err(_) => said.lack_memory(),
     }
 }

@@ -1,16 +1,17 @@
 //! What is said of a fault: the lines under its own, and the object that it is in JSON.
-use crate::texts::Text;
 use hek_diagnostics::{Diagnostic, Excerpt};
-use hek_report::Lines;
+use hek_report::{Lines, Text};
 use hek_rules::NoMemory;
 use std::alloc::Global;
-use std::str;
+use std::{mem, str};
 
 /// What is said of a fault, as far as something is known of it.
 #[derive(Drop)]
 pub struct Said {
     pub alloc: Global,
-    pub lines: Text,
+    lines: Vec<u8>,
+    /// Whether memory ran out for the lines.
+    is_short: bool,
     object: Lines,
 }
 
@@ -24,9 +25,30 @@ impl Said {
         object.put_text("fault", fault);
         Said {
             alloc,
-            lines: Text::new(alloc),
+            lines: Vec::new(alloc),
+            is_short: false,
             object,
         }
+    }
+
+    /// Keeps that memory ran out for the lines.
+    pub fn lack_memory(&mut self) {
+        self.is_short = true;
+    }
+
+    /// Keeps whether memory sufficed for some of the lines.
+    fn note(&mut self, put: Result<(), NoMemory>) {
+        if put.is_err() {
+            self.is_short = true;
+        }
+    }
+
+    /// The lines.
+    pub fn take_lines(&mut self) -> Result<Vec<u8>, NoMemory> {
+        if self.is_short {
+            return Err(NoMemory);
+        }
+        Ok(mem::replace(&mut self.lines, Vec::new(self.alloc)))
     }
 
     /// The line with the object.
@@ -37,11 +59,12 @@ impl Said {
 
     /// A member whose text is this pattern with its values.
     fn member(&mut self, name: &str, pattern: &str, values: &[&str]) {
-        let mut text = Text::new(self.alloc);
-        text.fill(pattern, values);
-        let Ok(bytes) = text.take() else {
+        let mut bytes = Vec::new(self.alloc);
+        let mut text = Text::after(&mut bytes);
+        text.form(pattern, values);
+        if text.done().is_err() {
             return self.object.lack_memory();
-        };
+        }
         if let Ok(text) = str::from_utf8(bytes.as_slice()) {
             self.object.put_text(name, text);
         }
@@ -61,18 +84,17 @@ impl Said {
 
     /// A text with carets under some of its characters.
     pub fn carets(&mut self, pattern: &str, values: &[&str], before: usize, count: usize) {
-        self.lines.put("  | ");
-        self.lines.fill(pattern, values);
-        self.lines.put("\n  | ");
-        self.lines.marks(" ", before);
-        self.lines.marks("^", count.max(1));
+        self.put(&["  | ", pattern, "\n  | "], values);
+        let mut text = Text::after(&mut self.lines);
+        text.marks(" ", before);
+        text.marks("^", count.max(1));
+        let put = text.done();
+        self.note(put);
     }
 
     /// What is wrong, after a mark or the carets.
     pub fn line(&mut self, mark: &str, pattern: &str, values: &[&str]) {
-        self.lines.put(mark);
-        self.lines.fill(pattern, values);
-        self.lines.put("\n");
+        self.put(&[mark, pattern, "\n"], values);
         self.member("message", pattern, values);
     }
 
@@ -81,24 +103,36 @@ impl Said {
     }
 
     pub fn wanted(&mut self, pattern: &str, values: &[&str]) {
-        self.lines.put("  | wanted: ");
-        self.lines.fill(pattern, values);
-        self.lines.put("\n");
+        self.put(&["  | wanted: ", pattern, "\n"], values);
         self.member("wanted", pattern, values);
     }
 
     pub fn meant(&mut self, pattern: &str, values: &[&str]) {
-        self.lines.put("  | did you mean `");
-        self.lines.fill(pattern, values);
-        self.lines.put("`?\n");
+        self.put(&["  | did you mean `", pattern, "`?\n"], values);
         self.member("meant", pattern, values);
+    }
+
+    /// A pattern with its values between what is before and after it.
+    fn put(&mut self, parts: &[&str; 3], values: &[&str]) {
+        let &[before, pattern, after] = parts;
+        let mut text = Text::after(&mut self.lines);
+        text.put(before);
+        text.form(pattern, values);
+        text.put(after);
+        let put = text.done();
+        self.note(put);
+    }
+
+    /// Lines as they are.
+    pub fn text(&mut self, lines: &str) {
+        self.put(&[lines, "", ""], &[]);
     }
 
     /// Lines that are made, unless memory ran out.
     pub fn shown<F: Drop>(&mut self, made: Result<String, F>) {
         match made {
-            Ok(lines) => self.lines.put(lines.as_str()),
-            Err(_) => self.lines.lack_memory(),
+            Ok(lines) => self.text(lines.as_str()),
+            Err(_) => self.lack_memory(),
         }
     }
 
@@ -137,4 +171,9 @@ pub fn digits(alloc: Global, number: u64) -> String {
         Ok(digits) => digits,
         Err(_) => String::new(alloc),
     }
+}
+
+/// Two values, at one lifetime.
+pub fn pair<'v>(first: &'v str, second: &'v str) -> [&'v str; 2] {
+    [first, second]
 }

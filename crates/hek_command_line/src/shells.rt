@@ -1,31 +1,33 @@
 //! What shells read to complete the words of a command line, made from the rows of the commands.
 use crate::commands::Command;
+use crate::manual::put_escaped;
 use crate::rows::{Argument, Form, Row, Times, Value};
-use crate::texts::Text;
+use hek_report::Text;
 use hek_rules::NoMemory;
 use std::alloc::Global;
 
 /// What `hek completions SHELL` prints for a shell, if it is one.
 pub fn completions(alloc: Global, shell: &str) -> Option<Result<Vec<u8>, NoMemory>> {
-    let mut out = Text::new(alloc);
+    let mut bytes = Vec::new(alloc);
+    let mut out = Text::after(&mut bytes);
     match shell {
         "bash" => put_bash(&mut out),
         "zsh" => put_zsh(&mut out),
         "fish" => put_fish(&mut out),
         _ => return None,
     }
-    Some(out.take())
+    Some(out.done().map(|()| bytes))
 }
 
 /// The names of all commands, with a blank after each.
-fn put_names(out: &mut Text) {
+fn put_names(out: &mut Text<'_>) {
     for command in Command::ALL {
-        out.fill("@ ", &[command.name()]);
+        out.form("@ ", &[command.name()]);
     }
 }
 
 /// The words of a value, with blanks between them.
-fn put_words(out: &mut Text, form: Form) {
+fn put_words(out: &mut Text<'_>, form: Form) {
     let (words, more) = form.words();
     out.words(words);
     out.put(if more.is_empty() { "" } else { " " });
@@ -80,7 +82,7 @@ const BASH_END: &str = r#"    esac
 complete -F _hek hek
 "#;
 
-fn put_bash(out: &mut Text) {
+fn put_bash(out: &mut Text<'_>) {
     out.put(BASH_FRONT);
     out.put("    \" hek\") words=\"");
     put_names(out);
@@ -98,16 +100,16 @@ fn put_bash(out: &mut Text) {
 }
 
 /// A line for each argument of a command that has a value.
-fn put_bash_values(out: &mut Text, row: &Row) {
+fn put_bash_values(out: &mut Text<'_>, row: &Row) {
     let command = row.name;
     for &Argument(name, form, _) in row.arguments {
         match form {
-            Form::Placed(_, Value::OneOf(_)) => out.fill("    \"@ @", &[command, command]),
-            Form::Choice(_) => out.fill("    \"@ --@=", &[command, name]),
+            Form::Placed(_, Value::OneOf(_)) => out.form("    \"@ @", &[command, command]),
+            Form::Choice(_) => out.form("    \"@ --@=", &[command, name]),
             Form::Valued(_, _) | Form::Needed(_, _) => {
-                out.fill("    \"@ --@\" | \"@ --@=", &[command, name, command, name]);
+                out.form("    \"@ --@\" | \"@ --@=", &[command, name, command, name]);
             }
-            Form::Output => out.fill("    \"@ --@\" | \"@ -o", &[command, name, command]),
+            Form::Output => out.form("    \"@ --@\" | \"@ -o", &[command, name, command]),
             Form::Placed(_, _) | Form::Flag => continue,
         }
         put_bash_value(out, form);
@@ -115,7 +117,7 @@ fn put_bash_values(out: &mut Text, row: &Row) {
 }
 
 /// What completes a value: words, files, or nothing.
-fn put_bash_value(out: &mut Text, form: Form) {
+fn put_bash_value(out: &mut Text<'_>, form: Form) {
     if form.is_file() {
         out.put("\") compopt -o default; return ;;\n");
     } else if has_words(form) {
@@ -128,11 +130,11 @@ fn put_bash_value(out: &mut Text, form: Form) {
 }
 
 /// The line of a command: its options, and whether it takes files.
-fn put_bash_options(out: &mut Text, row: &Row) {
-    out.fill("    @) words=\"", &[row.name]);
+fn put_bash_options(out: &mut Text<'_>, row: &Row) {
+    out.form("    @) words=\"", &[row.name]);
     for &Argument(name, form, _) in row.arguments {
         if !form.is_placed() {
-            out.fill("--@ ", &[name]);
+            out.form("--@ ", &[name]);
         }
     }
     out.put("--help\"");
@@ -188,18 +190,18 @@ else
 fi
 "#;
 
-fn put_zsh(out: &mut Text) {
+fn put_zsh(out: &mut Text<'_>) {
     out.put(ZSH_FRONT);
     for command in Command::ALL {
         let row = command.row();
-        out.fill("        '@:", &[row.name]);
-        out.escaped(row.about, QUOTED);
+        out.form("        '@:", &[row.name]);
+        put_escaped(out, row.about, QUOTED);
         out.put("'\n");
     }
     out.put(ZSH_MIDDLE);
     for command in Command::ALL {
         let row = command.row();
-        out.fill("        @)\n            _arguments \\\n", &[row.name]);
+        out.form("        @)\n            _arguments \\\n", &[row.name]);
         for argument in row.arguments {
             put_zsh_argument(out, argument);
         }
@@ -209,20 +211,20 @@ fn put_zsh(out: &mut Text) {
 }
 
 /// An argument as `_arguments` takes it.
-fn put_zsh_argument(out: &mut Text, argument: &Argument) {
+fn put_zsh_argument(out: &mut Text<'_>, argument: &Argument) {
     let &Argument(name, form, help) = argument;
     out.put("                ");
     match form {
-        Form::Placed(Times::One, _) => out.fill("':@", &[name]),
-        Form::Placed(Times::Maybe, _) => out.fill("'::@", &[name]),
-        Form::Placed(Times::Several | Times::Any, _) => out.fill("'*:@", &[name]),
-        Form::Flag => out.fill("'--@[", &[name]),
-        Form::Valued(_, _) | Form::Needed(_, _) => out.fill("'--@=[", &[name]),
-        Form::Choice(_) => out.fill("'--@=-[", &[name]),
-        Form::Output => out.fill("{-o,--@=}'[", &[name]),
+        Form::Placed(Times::One, _) => out.form("':@", &[name]),
+        Form::Placed(Times::Maybe, _) => out.form("'::@", &[name]),
+        Form::Placed(Times::Several | Times::Any, _) => out.form("'*:@", &[name]),
+        Form::Flag => out.form("'--@[", &[name]),
+        Form::Valued(_, _) | Form::Needed(_, _) => out.form("'--@=[", &[name]),
+        Form::Choice(_) => out.form("'--@=-[", &[name]),
+        Form::Output => out.form("{-o,--@=}'[", &[name]),
     }
     if !form.is_placed() {
-        out.escaped(help, ZSH_TEXT);
+        put_escaped(out, help, ZSH_TEXT);
         out.put("]");
     }
     put_zsh_value(out, form);
@@ -230,11 +232,11 @@ fn put_zsh_argument(out: &mut Text, argument: &Argument) {
 }
 
 /// The value of an argument: its name, and what completes it.
-fn put_zsh_value(out: &mut Text, form: Form) {
+fn put_zsh_value(out: &mut Text<'_>, form: Form) {
     match form {
         Form::Flag => return,
         Form::Choice(_) => out.put("::HOW:"),
-        Form::Valued(name, _) | Form::Needed(name, _) => out.fill(":@:", &[name]),
+        Form::Valued(name, _) | Form::Needed(name, _) => out.form(":@:", &[name]),
         Form::Output => out.put(":OUT:"),
         Form::Placed(_, _) => out.put(":"),
     }
@@ -258,17 +260,17 @@ complete -c hek -n __fish_use_subcommand -s h -l help -d 'Print help'
 complete -c hek -n __fish_use_subcommand -s V -l version -d 'Print version'
 complete -c hek -n '__fish_seen_subcommand_from help' -a '";
 
-fn put_fish(out: &mut Text) {
+fn put_fish(out: &mut Text<'_>) {
     out.put(FISH_FRONT);
     put_names(out);
     out.put("'\n");
     for command in Command::ALL {
         let row = command.row();
-        out.fill(
+        out.form(
             "complete -c hek -n __fish_use_subcommand -a @ -d '",
             &[row.name],
         );
-        out.escaped(row.about, FISH_TEXT);
+        put_escaped(out, row.about, FISH_TEXT);
         out.put("'\n");
     }
     for command in Command::ALL {
@@ -277,7 +279,7 @@ fn put_fish(out: &mut Text) {
 }
 
 /// The lines of a command.
-fn put_fish_command(out: &mut Text, row: &Row) {
+fn put_fish_command(out: &mut Text<'_>, row: &Row) {
     for argument in row.arguments {
         put_fish_argument(out, row, argument);
     }
@@ -290,27 +292,27 @@ fn put_fish_command(out: &mut Text, row: &Row) {
 }
 
 /// What begins a line of a command.
-fn put_fish_start(out: &mut Text, row: &Row) {
-    out.fill(
+fn put_fish_start(out: &mut Text<'_>, row: &Row) {
+    out.form(
         "complete -c hek -n '__fish_seen_subcommand_from @'",
         &[row.name],
     );
 }
 
 /// The line of an option, or of an argument that is one of some words.
-fn put_fish_argument(out: &mut Text, row: &Row, argument: &Argument) {
+fn put_fish_argument(out: &mut Text<'_>, row: &Row, argument: &Argument) {
     let &Argument(name, form, help) = argument;
     if form.is_placed() && !has_words(form) {
         return;
     }
     put_fish_start(out, row);
     match form {
-        Form::Output => out.fill(" -s o -l @ -r -F", &[name]),
+        Form::Output => out.form(" -s o -l @ -r -F", &[name]),
         Form::Valued(_, _) | Form::Needed(_, _) if form.is_file() => {
-            out.fill(" -l @ -r -F", &[name]);
+            out.form(" -l @ -r -F", &[name]);
         }
-        Form::Valued(_, _) | Form::Needed(_, _) => out.fill(" -l @ -x", &[name]),
-        Form::Choice(_) | Form::Flag => out.fill(" -l @", &[name]),
+        Form::Valued(_, _) | Form::Needed(_, _) => out.form(" -l @ -x", &[name]),
+        Form::Choice(_) | Form::Flag => out.form(" -l @", &[name]),
         Form::Placed(_, _) => {}
     }
     if has_words(form) {
@@ -319,6 +321,6 @@ fn put_fish_argument(out: &mut Text, row: &Row, argument: &Argument) {
         out.put("'");
     }
     out.put(" -d '");
-    out.escaped(help, FISH_TEXT);
+    put_escaped(out, help, FISH_TEXT);
     out.put("'\n");
 }

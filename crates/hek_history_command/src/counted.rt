@@ -1,9 +1,8 @@
 //! How many anomalies there are of each name.
 use hek_anomalies::Anomaly;
-use hek_report::{Lines, put};
+use hek_report::{Hole, Lines, Text};
 use hek_rules::NoMemory;
 use std::alloc::Global;
-use std::io::Write;
 
 /// What is said of a log without the answers on which its anomalies rest.
 #[derive(Clone, Copy, PartialEq, Eq)]
@@ -62,15 +61,14 @@ impl Tally {
         Ok(())
     }
 
-    /// Appends `12 lost updates, 3 write skews`.
-    pub(crate) fn put_words(&self, lines: &mut Vec<u8>) -> Result<(), NoMemory> {
+    /// Adds `12 lost updates, 3 write skews`.
+    pub(crate) fn put_words(&self, text: &mut Text<'_>) {
         for (place, one) in self.counted.iter().enumerate() {
             let (anomaly, count) = *one;
-            let comma = if place == 0 { "" } else { ", " };
+            let pattern = if place == 0 { "@ @" } else { ", @ @" };
             let name = anomaly.counted(count);
-            put(write!(lines, "{comma}{count} {name}"))?;
+            text.form(pattern, &[Hole::Number(count), Hole::Word(name)]);
         }
-        Ok(())
     }
 
     /// Puts the member `counts`: each name with its number.

@@ -1,7 +1,7 @@
 //! The faults of a log as a reader sees them: each with its line, carets under what is wrong, what is wanted and what is meant.
 use hek_diagnostics::{Excerpt, nearest_word};
 use hek_history_log::{FaultWatch, LogFault, Mistake, Pinpoint, mistake_in};
-use hek_report::put;
+use hek_report::{Hole, Text};
 use hek_rules::NoMemory;
 use std::alloc::Global;
 use std::io::Write;
@@ -56,13 +56,16 @@ impl<'n> Explained<'n> {
             start: found.start,
             end: found.end,
         };
-        let name = self.name;
-        let column = excerpt.column();
-        put(write!(self.lines, "  {name}:{number}:{column}\n{excerpt} "))?;
+        let (alloc, name) = (self.alloc, Hole::Word(self.name));
+        let column = Hole::Number(excerpt.column() as u64);
+        let mut text = Text::after(&mut self.lines);
+        text.form("  @:@:@\n", &[name, Hole::Number(number), column]);
+        text.form("@ ", &[excerpt]);
         let word = word_at(line, found);
-        put_mistake(found.mistake, word, &mut self.lines)?;
-        put_wanted(fault, &mut self.lines)?;
-        put_meant(self.alloc, fault, found.mistake, word, &mut self.lines)
+        put_mistake(found.mistake, word, &mut text);
+        put_wanted(fault, &mut text);
+        put_meant(alloc, fault, found.mistake, word, &mut text);
+        text.done()
     }
 }
 
@@ -94,11 +97,14 @@ fn word_at<'l>(line: &'l [u8], found: Pinpoint) -> Option<&'l str> {
 /// How many bytes a word has at most that is shown again below its line.
 const LONGEST: usize = 60;
 
-/// Appends what is wrong with bytes.
-fn put_mistake(mistake: Mistake, word: Option<&str>, lines: &mut Vec<u8>) -> Result<(), NoMemory> {
+/// Adds what is wrong with bytes.
+fn put_mistake(mistake: Mistake, word: Option<&str>, text: &mut Text<'_>) {
     match (noun_of(mistake), word) {
-        (Some(noun), Some(word)) => put(writeln!(lines, "no {noun} is called `{word}`")),
-        _ => put(writeln!(lines, "{mistake}")),
+        (Some(noun), Some(word)) => {
+            let (noun, word) = (Hole::Word(noun), Hole::Word(word));
+            text.form("no @ is called `@`\n", &[noun, word]);
+        }
+        _ => text.form("@\n", &[mistake]),
     }
 }
 
@@ -113,32 +119,31 @@ fn noun_of(mistake: Mistake) -> Option<&'static str> {
     }
 }
 
-/// Appends what is wanted at a place.
-fn put_wanted(fault: &LogFault, lines: &mut Vec<u8>) -> Result<(), NoMemory> {
+/// Adds what is wanted at a place.
+fn put_wanted(fault: &LogFault, text: &mut Text<'_>) {
     match fault {
-        LogFault::Wanted { wanted, .. } => put(writeln!(lines, "  | wanted: {wanted}")),
-        LogFault::Json { .. } => put(writeln!(lines, "  | wanted: a JSON object on one line")),
-        LogFault::Duplicate { .. } => { put(writeln!(lines, "  | wanted: each transaction once")) }
-        _ => Ok(()),
+        LogFault::Wanted { wanted, .. } => text.form("  | wanted: @\n", &[*wanted]),
+        LogFault::Json { .. } => text.put("  | wanted: a JSON object on one line\n"),
+        LogFault::Duplicate { .. } => text.put("  | wanted: each transaction once\n"),
+        _ => {}
     }
 }
 
-/// Appends the word that is meant, if one is near.
+/// Adds the word that is meant, if one is near.
 fn put_meant(
     alloc: Global,
     fault: &LogFault,
     mistake: Mistake,
     word: Option<&str>,
-    lines: &mut Vec<u8>,
-) -> Result<(), NoMemory> {
+    text: &mut Text<'_>,
+) {
     let LogFault::Wanted { wanted, .. } = fault else {
-        return Ok(());
+        return;
     };
     let Some(word) = word else {
-        return Ok(());
+        return;
     };
-    match nearest_word(alloc, word, mistake.known(*wanted)) {
-        Some(meant) => put(writeln!(lines, "  | did you mean `{meant}`?")),
-        None => Ok(()),
+    if let Some(meant) = nearest_word(alloc, word, mistake.known(*wanted)) {
+        text.form("  | did you mean `@`?\n", &[meant]);
     }
 }

@@ -4,7 +4,6 @@ use crate::report::{Answer, Kind};
 use hek_history_report::Teller;
 use hek_ladder::{Binding, Promise, Scene};
 use hek_report::Lines;
-use hek_rules::NoMemory;
 
 /// Puts the member `holds`, if there are any: the strongest levels that hold.
 fn put_held(held: &[Promise], out: &mut Lines) {
@@ -29,11 +28,7 @@ fn kind_word(kind: Kind) -> &'static str {
 }
 
 /// The object of an answer.
-pub(crate) fn put_answer(
-    scene: &Scene,
-    answer: Answer<'_>,
-    out: &mut Lines,
-) -> Result<(), NoMemory> {
+pub(crate) fn put_answer(scene: &Scene, answer: Answer<'_>, out: &mut Lines) {
     let teller = Teller {
         alloc: scene.alloc,
         log: &scene.log,
@@ -46,7 +41,7 @@ pub(crate) fn put_answer(
         out.put_number("conflicts", progress.conflicts as u64);
     }
     if let Some(cause) = answer.cause {
-        teller.put_cycle(cause, out)?;
+        teller.put_cycle(cause, out);
     }
     if let Some(counts) = answer.counts {
         out.put_maybe("elsewhere", counts.elsewhere);
@@ -59,28 +54,22 @@ pub(crate) fn put_answer(
     if let Some(promise) = answer.promise {
         out.put_text("level", promise.word());
     }
-    put_rest(scene, teller, answer, out)?;
+    put_rest(scene, teller, answer, out);
     out.end_line();
-    Ok(())
 }
 
 /// The members of an answer from `order` on.
-fn put_rest(
-    scene: &Scene,
-    teller: Teller<'_>,
-    answer: Answer<'_>,
-    out: &mut Lines,
-) -> Result<(), NoMemory> {
+fn put_rest(scene: &Scene, teller: Teller<'_>, answer: Answer<'_>, out: &mut Lines) {
     out.put_text("order", scene.binding.word());
     if let Some(counts) = answer.counts {
         out.put_number("reads", counts.reads);
     }
     if let Some(cause) = answer.cause {
-        teller.put_reads(cause, out)?;
+        teller.put_reads(cause, out);
     }
     out.put_flag("sessions", scene.binding.sessions);
     if let Some(cause) = answer.cause {
-        teller.put_steps(cause, out)?;
+        teller.put_steps(cause, out);
     }
     if let Some(counts) = answer.counts {
         out.put_number("transactions", counts.transactions);
@@ -88,7 +77,6 @@ fn put_rest(
     if answer.kind != Kind::Anomaly {
         out.put_text("verdict", answer.word);
     }
-    Ok(())
 }
 
 /// The object of how many anomalies there are of each name.

@@ -2,7 +2,7 @@
 use hek_history::Point;
 use hek_ladder::{Promise, Scene};
 use hek_levels_search::Shown;
-use hek_report::{HekFault, put, send, send_if_many};
+use hek_report::{HekFault, Text, send, send_if_many};
 use hek_rules::NoMemory;
 use std::io::Write;
 
@@ -24,8 +24,9 @@ pub(crate) fn write_order<'a, O: Write>(
         }
         Shown::Sources(certificate) => {
             for t in certificate.order.iter() {
-                let name = scene.log.name(*t);
-                put(writeln!(lines, "{name}"))?;
+                let mut text = Text::after(&mut lines);
+                text.form("@\n", &[scene.log.name(*t)]);
+                text.done()?;
                 send_if_many(&mut lines, out)?;
             }
         }
@@ -40,19 +41,19 @@ fn put_point(
     point: Point,
     lines: &mut Vec<u8>,
 ) -> Result<(), NoMemory> {
-    let (place, word) = match point {
-        Point::Begin(place) => (place, "begin"),
-        Point::Commit(place) => (place, "commit"),
+    let (place, is_begin) = match point {
+        Point::Begin(place) => (place, true),
+        Point::Commit(place) => (place, false),
     };
-    let name = scene.log.name(place);
-    let written = if reads_before(scene, promise, place) {
-        writeln!(lines, "{name} {word}")
-    } else if word == "commit" {
-        writeln!(lines, "{name}")
-    } else {
-        Ok(())
+    let pattern = match (reads_before(scene, promise, place), is_begin) {
+        (true, true) => "@ begin\n",
+        (true, false) => "@ commit\n",
+        (false, true) => "",
+        (false, false) => "@\n",
     };
-    put(written)
+    let mut text = Text::after(lines);
+    text.form(pattern, &[scene.log.name(place)]);
+    text.done()
 }
 
 /// Whether a transaction reads before it commits, at the level that is asked for.

@@ -7,7 +7,7 @@ use crate::{json, text};
 use hek_anomalies::Cause;
 use hek_ladder::{Promise, Scene, Standing};
 use hek_levels_search::Progress;
-use hek_report::{HekFault, Lines, Printing, send, send_lines};
+use hek_report::{HekFault, Lines, Printing, Text, send, send_lines};
 use std::io::Write;
 
 /// What an answer is.
@@ -117,11 +117,13 @@ impl<O: Write, W: Write> Report<'_, O, W> {
     pub(crate) fn say<'a>(&mut self, answer: Answer<'_>) -> Result<(), HekFault<'a>> {
         if self.is_text() {
             let mut lines = Vec::new(self.scene.alloc);
-            text::put_answer(&self.scene, answer, &mut lines)?;
+            let mut words = Text::after(&mut lines);
+            text::put_answer(&self.scene, answer, &mut words);
+            words.done()?;
             return send(&mut lines, self.out);
         }
         let mut objects = Lines::new(self.scene.alloc);
-        json::put_answer(&self.scene, answer, &mut objects)?;
+        json::put_answer(&self.scene, answer, &mut objects);
         send_lines(&mut objects, self.out)
     }
 
@@ -150,8 +152,10 @@ impl<O: Write, W: Write> Report<'_, O, W> {
             let alone = self.choice.extent == Extent::Counts;
             let front = alone.then_some(Answer::verdict(asked, Standing::Fails));
             let mut lines = Vec::new(self.scene.alloc);
-            text::put_counts(front, tally, rest, &mut lines)?;
-            text::put_held(held, &mut lines)?;
+            let mut words = Text::after(&mut lines);
+            text::put_counts(front, tally, rest, &mut words);
+            text::put_held(held, &mut words);
+            words.done()?;
             return send(&mut lines, self.out);
         }
         let mut objects = Lines::new(self.scene.alloc);

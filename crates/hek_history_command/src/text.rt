@@ -6,92 +6,58 @@ use hek_anomalies::{Cause, EdgeKind, Evidence};
 use hek_history_report::Teller;
 use hek_ladder::{Binding, Promise, Scene};
 use hek_levels_search::Progress;
-use hek_report::put;
-use hek_rules::NoMemory;
-use std::fmt;
-use std::io::Write;
-
-/// A number of things.
-#[derive(Clone, Copy)]
-struct Counted {
-    count: u64,
-    noun: &'static str,
-}
-
-fn number_of(count: u64, noun: &'static str) -> Counted {
-    Counted { count, noun }
-}
-
-impl fmt::Display for Counted {
-    fn fmt<W: fmt::Write>(&self, f: &mut fmt::Formatter<W>) -> fmt::Result {
-        let Counted { count, noun } = *self;
-        let ending = if count == 1 { "" } else { "s" };
-        write!(f, "{count} {noun}{ending}")
-    }
-}
+use hek_report::{Hole, Text};
 
 /// The words that an answer begins with: how what is asked stands, and at which level. `right` and `wrong` say themselves that it is each
 /// transaction's own.
-fn put_front(answer: Answer<'_>, lines: &mut Vec<u8>) -> Result<(), NoMemory> {
-    let word = answer.word;
-    put(write!(lines, "{word}"))?;
+fn put_front(answer: Answer<'_>, text: &mut Text<'_>) {
     match answer.promise {
-        None => Ok(()),
-        Some(Promise::Own) if answer.progress.is_none() => Ok(()),
-        Some(promise) => {
-            let level = promise.word();
-            put(write!(lines, " at {level}"))
-        }
+        None => text.put(answer.word),
+        Some(Promise::Own) if answer.progress.is_none() => text.put(answer.word),
+        Some(promise) => text.form("@ at @", &[answer.word, promise.word()]),
     }
 }
 
 /// The lines of an answer: what is counted, how far a search came, or an anomaly's name and its cycle, and the strongest levels that hold.
-pub(crate) fn put_answer(
-    scene: &Scene,
-    answer: Answer<'_>,
-    lines: &mut Vec<u8>,
-) -> Result<(), NoMemory> {
-    put_front(answer, lines)?;
+pub(crate) fn put_answer(scene: &Scene, answer: Answer<'_>, text: &mut Text<'_>) {
+    put_front(answer, text);
     if let Some(counts) = answer.counts {
-        put_counted(scene, answer.promise, counts, lines)?;
+        put_counted(scene, answer.promise, counts, text);
     }
     if let Some(progress) = answer.progress {
-        put_progress(progress, scene.effort, lines)?;
+        put_progress(progress, scene.effort, text);
     }
-    let Some(cause) = answer.cause else {
-        put(writeln!(lines))?;
-        return put_held(answer.held, lines);
-    };
-    let name = cause.anomaly.name();
-    put(writeln!(lines, ": {name}"))?;
+    match answer.cause {
+        Some(cause) => put_cause(scene, answer.kind, cause, text),
+        None => text.put("\n"),
+    }
+    put_held(answer.held, text);
+}
+
+/// What keeps a log from what is asked.
+fn put_cause(scene: &Scene, kind: Kind, cause: &Cause, text: &mut Text<'_>) {
     let teller = Teller {
         alloc: scene.alloc,
         log: &scene.log,
     };
-    teller.put_lines(cause, lines)?;
-    if answer.kind == Kind::Verdict {
-        put_binding(scene.binding, cause, lines)?;
+    text.form(": @\n", &[cause.anomaly.name()]);
+    teller.put_lines(cause, text);
+    if kind == Kind::Verdict {
+        put_binding(scene.binding, cause, text);
     }
-    put_held(answer.held, lines)
 }
 
 /// What is counted of the order that was found.
-fn put_counted(
-    scene: &Scene,
-    promise: Option<Promise>,
-    counts: Counts,
-    lines: &mut Vec<u8>,
-) -> Result<(), NoMemory> {
+fn put_counted(scene: &Scene, promise: Option<Promise>, counts: Counts, text: &mut Text<'_>) {
     if promise == Some(Promise::Own) {
-        put(write!(lines, ": each has what its level promises"))?;
+        text.put(": each has what its level promises");
     }
-    let transactions = number_of(counts.transactions, "transaction");
-    let reads = number_of(counts.reads, "read");
-    put(write!(lines, ": {transactions}, {reads}"))?;
+    let transactions = Hole::Count(counts.transactions, "transaction");
+    text.form(": @, @", &[transactions, Hole::Count(counts.reads, "read")]);
     match counts.elsewhere {
         None => {}
-        Some(0) => put(write!(lines, ", in the order of their ends"))?,
-        Some(count) => put(write!(lines, ", {count} of them elsewhere than by end time"))?,
+        Some(0) => text.put(", in the order of their ends"),
+        Some(count) => text.form(", @ of them elsewhere than by end time", &[count]),
     }
     let binding = scene.binding;
     let are_numbered = binding.versions && scene.log.has_versions();
@@ -101,25 +67,24 @@ fn put_counted(
         (binding.real, ", real time kept"),
     ] {
         if binds {
-            put(write!(lines, "{words}"))?;
+            text.put(words);
         }
     }
-    Ok(())
 }
 
 /// How far a search came.
-fn put_progress(progress: Progress, effort: usize, lines: &mut Vec<u8>) -> Result<(), NoMemory> {
-    let conflicts = number_of(progress.conflicts as u64, "conflict");
-    let repairs = number_of(effort as u64, "repair");
-    let more = effort.saturating_mul(10);
-    put(writeln!(
-        lines,
-        ": after {conflicts} the search has no order, and no proof that there is none"
-    ))?;
-    put(write!(
-        lines,
-        "  it gave up at {repairs} of an order; --effort {more} goes on ten times as far"
-    ))
+fn put_progress(progress: Progress, effort: usize, text: &mut Text<'_>) {
+    let conflicts = Hole::Count(progress.conflicts as u64, "conflict");
+    text.form(
+        ": after @ the search has no order, and no proof that there is none\n",
+        &[conflicts],
+    );
+    let repairs = Hole::Count(effort as u64, "repair");
+    let more = Hole::Number(effort.saturating_mul(10) as u64);
+    text.form(
+        "  it gave up at @ of an order; --effort @ goes on ten times as far",
+        &[repairs, more],
+    );
 }
 
 /// Whether an anomaly rests on what binds, and not on answers alone: on versions, sessions, real time.
@@ -139,7 +104,7 @@ fn rests_on(cause: &Cause) -> [bool; 3] {
 }
 
 /// The lines that say which orders are asked for, if an anomaly rests on that.
-fn put_binding(binding: Binding, cause: &Cause, lines: &mut Vec<u8>) -> Result<(), NoMemory> {
+fn put_binding(binding: Binding, cause: &Cause, text: &mut Text<'_>) {
     let [versions, sessions, real] = rests_on(cause);
     for (is_said, orders, option) in [
         (
@@ -159,23 +124,18 @@ fn put_binding(binding: Binding, cause: &Cause, lines: &mut Vec<u8>) -> Result<(
         ),
     ] {
         if is_said {
-            put(writeln!(lines, "  in {orders}; {option} asks for any"))?;
+            text.form("  in @; @ asks for any\n", &[orders, option]);
         }
     }
-    Ok(())
 }
 
 /// The line of the strongest levels that hold.
-pub(crate) fn put_held(held: &[Promise], lines: &mut Vec<u8>) -> Result<(), NoMemory> {
+pub(crate) fn put_held(held: &[Promise], text: &mut Text<'_>) {
     for (place, promise) in held.iter().enumerate() {
-        let word = promise.word();
-        let front = if place == 0 { "holds at " } else { " and " };
-        put(write!(lines, "{front}{word}"))?;
+        let pattern = if place == 0 { "holds at @" } else { " and @" };
+        text.form(pattern, &[promise.word()]);
     }
-    if held.is_empty() {
-        return Ok(());
-    }
-    put(writeln!(lines))
+    text.put(if held.is_empty() { "" } else { "\n" });
 }
 
 /// The line of how many anomalies there are of each name, and of the rest. If it stands alone, the words of the verdict are before it.
@@ -183,15 +143,14 @@ pub(crate) fn put_counts(
     front: Option<Answer<'_>>,
     tally: &Tally,
     rest: Rest,
-    lines: &mut Vec<u8>,
-) -> Result<(), NoMemory> {
+    text: &mut Text<'_>,
+) {
     match front {
-        Some(verdict) => put_front(verdict, lines)?,
-        None => put(write!(lines, "in all"))?,
+        Some(verdict) => put_front(verdict, text),
+        None => text.put("in all"),
     }
-    put(write!(lines, ": "))?;
-    tally.put_words(lines)?;
+    text.put(": ");
+    tally.put_words(text);
     let verb = if rest == Rest::Holds { "" } else { "is " };
-    let word = rest.word();
-    put(writeln!(lines, "; the rest {verb}{word}"))
+    text.form("; the rest @@\n", &[verb, rest.word()]);
 }

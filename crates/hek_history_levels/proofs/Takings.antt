@@ -14,6 +14,7 @@ use Rattle.hek_levels.specs.declared.log.Read.{Read}
 use Rattle.hek_levels.specs.declared.log.Scan.{Scan}
 use Rattle.hek_levels.specs.declared.log.Place.{Place}
 use Rattle.hek_levels.specs.declared.log.Place.TheVariants as place
+use Rattle.hek_levels.specs.Logs.{left_in}
 use Rattle.hek_history_levels.specs.Changes.{left_of, left_by, IsPassing}
 use Rattle.hek_history_levels.specs.Reads.{IsRead, read_of, HasRead}
 use Rattle.hek_history_levels.specs.Fits.{IsFitting, AreFittingTo, AreFitting}
@@ -202,10 +203,10 @@ module _ (lenient : Bool) (ops : List Operation) (n : ℕ) (op : Operation) (old
   }
 
 -- a transaction as levels see it
-pub seen-by : (given : List Turn) (x : Transaction) (taken : Taken) (the_turns : Vec Turn Global) (lenient : Bool) (ops : List Operation) → lenient ≡ is_lenient x.level → ops ≡ x.operations.items → the_turns.items ≡ given →
+pub seen-by : (given : List Turn) (x : Transaction) (taken : Taken) (the_turns : Vec Turn Global) (the_reads : Vec Read Global) (the_writes : Vec Change Global) (lenient : Bool) (ops : List Operation) → lenient ≡ is_lenient x.level → ops ≡ x.operations.items → the_turns.items ≡ given → the_reads.items ≡ taken.reads.items → the_writes.items ≡ taken.own.writes.items →
     IsTaken lenient ops (length ops) taken →
-    IsSeen given x (record { status = x.status; fits = taken.fits; turns = the_turns; reads = taken.reads; scans = taken.scans; writes = taken.own.writes; passing = taken.own.passing })
-seen-by given x taken the_turns lenient ops level is turned t =
+    IsSeen given x (record { status = x.status; fits = taken.fits; turns = the_turns; reads = the_reads; scans = taken.scans; writes = the_writes; passing = taken.own.passing })
+seen-by given x taken the_turns the_reads the_writes lenient ops level is turned read written t =
     let known : IsTaken (is_lenient x.level) x.operations.items (length x.operations.items) taken =
     subst (λ (b : Bool). IsTaken b x.operations.items (length x.operations.items) taken) level (subst (λ (os : List Operation). IsTaken lenient os (length os) taken) is t) in
     let fit = fits-all (is_lenient x.level) x.operations.items in
@@ -213,8 +214,12 @@ seen-by given x taken the_turns lenient ops level is turned t =
       status = refl;
       turns = turned;
       fits = (λ e. fit.0 (known.fits.0 e), λ a. known.fits.1 (fit.1 a));
-      reads = (λ n key need. reads-all (is_lenient x.level) x.operations.items n key need (HasRead taken.reads.items taken.scans.items n key need) (known.reads n key need));
+      reads = (λ n key need.
+          subst
+          (λ (rs : List Read). HasRead rs taken.scans.items n key need ↔ IsRead (is_lenient x.level) x.operations.items n key need)
+          (sym read)
+          (reads-all (is_lenient x.level) x.operations.items n key need (HasRead taken.reads.items taken.scans.items n key need) (known.reads n key need)));
       writes = (λ key.
-          left-placed (get ◌==◌ taken.own.places) taken.own.writes.items known.own key ∙ known.left key ∙ ap (λ (os : List Operation). left_by os key) (take-length x.operations.items));
+          ap (λ (cs : List Change). left_in cs key) written ∙ left-placed (get ◌==◌ taken.own.places) taken.own.writes.items known.own key ∙ known.left key ∙ ap (λ (os : List Operation). left_by os key) (take-length x.operations.items));
       passing = known.passing;
     }

@@ -91,7 +91,7 @@ fn taken_of(alloc: Global, lenient: bool, operations: &[Operation]) -> Result<Ta
     Ok(taken)
 }
 
-/// A transaction as levels see it.
+/// A transaction as levels see it. Its lists have no more room than they need: a log has many.
 pub(crate) fn seen(
     alloc: Global,
     turns: &[Turn],
@@ -101,13 +101,16 @@ pub(crate) fn seen(
 {
     let lenient = is_lenient(transaction.level);
     let taken = taken_of(alloc, lenient, transaction.operations.as_slice())?;
+    let reads = Vec::from_slice(alloc, taken.reads.as_slice())?;
+    let own = taken.own;
+    let writes = Vec::from_slice(alloc, own.writes.as_slice())?;
     Ok(hek_levels::Transaction {
         status: transaction.status,
         fits: taken.fits,
         turns: Vec::from_slice(alloc, turns)?,
-        reads: taken.reads,
+        reads,
         scans: taken.scans,
-        writes: taken.own.writes,
-        passing: taken.own.passing,
+        writes,
+        passing: own.passing,
     })
 }

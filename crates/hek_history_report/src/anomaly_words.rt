@@ -1,12 +1,11 @@
 //! An anomaly in words.
-use hek_anomalies::{Anomaly, Cause, CycleEdge, EdgeKind, Evidence, OwnFault, Sighting, Told};
+use hek_anomalies::{Anomaly, Cause, CycleEdge, EdgeKind, Evidence, OwnFault, Told};
 use hek_history_log::{Label, Log};
 use hek_levels::{Need, Writer};
-use hek_report::put;
+use hek_report::Text;
 use hek_rules::NoMemory;
-use std::alloc::{AllocError, Global};
+use std::alloc::Global;
 use std::fmt;
-use std::io::Write;
 
 /// The word of an edge's kind in JSON.
 pub(crate) fn kind_word(kind: EdgeKind) -> &'static str {
@@ -32,18 +31,28 @@ pub(crate) fn evidence_word(evidence: Evidence) -> &'static str {
     }
 }
 
-/// A transaction by its name, or the opening rows.
+/// What stands for a mark of a sentence on a log.
 #[derive(Clone, Copy)]
-enum Who<'a> {
-    Opening,
-    Transaction(Label<'a>),
+enum Part<'a> {
+    Word(&'static str),
+    /// The number of an operation, from 1.
+    Number(usize),
+    /// A transaction, a key or a value.
+    Label(Label<'a>),
+    /// A key, between what is said of it.
+    Key(&'static str, Label<'a>, &'static str),
+    /// A key with a value, after a verb.
+    Pair(&'static str, Label<'a>, Label<'a>),
 }
 
-impl fmt::Display for Who<'_> {
+impl fmt::Display for Part<'_> {
     fn fmt<W: fmt::Write>(&self, f: &mut fmt::Formatter<W>) -> fmt::Result {
         match *self {
-            Who::Opening => f.write_str("the opening"),
-            Who::Transaction(name) => write!(f, "{name}"),
+            Part::Word(word) => f.write_str(word),
+            Part::Number(number) => write!(f, "{number}"),
+            Part::Label(label) => write!(f, "{label}"),
+            Part::Key(front, key, back) => write!(f, "{front}{key}{back}"),
+            Part::Pair(verb, key, value) => write!(f, "{verb} {key} = {value}"),
         }
     }
 }
@@ -55,232 +64,230 @@ pub struct Teller<'a> {
     pub log: &'a Log,
 }
 
+/// What a log has.
 impl<'a> Teller<'a> {
     /// The name of a writer.
-    fn name(self, writer: Writer) -> Who<'a> {
+    fn name(self, writer: Writer) -> Part<'a> {
         match writer {
-            Writer::Opening => Who::Opening,
-            Writer::Transaction(place) => Who::Transaction(self.log.name(place)),
+            Writer::Opening => Part::Word("the opening"),
+            Writer::Transaction(place) => Part::Label(self.log.name(place)),
         }
     }
-}
 
-/// What answers tell, and why one transaction is before another.
-impl Teller<'_> {
-    /// What was found at a key, without who found it.
-    fn found(self, key: u64, need: Need) -> Result<String, AllocError> {
+    /// What was found at a key.
+    fn found(self, key: u64, need: Need) -> Part<'a> {
         let key = self.log.key(key);
         match need {
-            Need::Absent => format!(in self.alloc; "found {key} absent"),
-            Need::Present => format!(in self.alloc; "found that {key} is there"),
-            Need::Value(value) => {
-                let value = self.log.value(value);
-                format!(in self.alloc; "read {key} = {value}")
-            }
-        }
-    }
-
-    /// What a reader found at a key.
-    fn reading(self, reader: Writer, key: u64, need: Need) -> Result<String, AllocError> {
-        let reader = self.name(reader);
-        let found = self.found(key, need)?;
-        format!(in self.alloc; "{reader} {found}")
-    }
-
-    /// What a transaction found beside.
-    fn sighting(self, seen: Sighting) -> Result<String, AllocError> {
-        self.reading(Writer::Transaction(seen.reader), seen.key, seen.read)
-    }
-
-    /// What a read found, and who may have written that.
-    pub(crate) fn told(self, told: &Told) -> Result<String, AllocError> {
-        let found = self.reading(Writer::Transaction(told.reader), told.key, told.need)?;
-        let mut words = format!(in self.alloc; "{found}: of ")?;
-        for (place, writer) in told.writers.iter().enumerate() {
-            let name = self.name(*writer);
-            let or = if place == 0 { "" } else { " or " };
-            words = format!(in self.alloc; "{words}{or}{name}")?;
-        }
-        words.push_str(others_of(told))?;
-        Ok(words)
-    }
-
-    /// Why the first of an edge is before the second.
-    pub(crate) fn edge(self, anomaly: Anomaly, edge: CycleEdge) -> Result<String, AllocError> {
-        let first = self.name(edge.first);
-        let second = self.name(edge.second);
-        match (edge.kind, edge.key) {
-            (EdgeKind::Own(fault), _) => self.own_fault(edge.second, fault),
-            (EdgeKind::Session, _) => {
-                format!(in self.alloc; "{first} is before {second} in their session")
-            }
-            (EdgeKind::RealTime, _) | (_, None) => {
-                format!(in self.alloc; "{first} was answered before {second} was invoked")
-            }
-            (EdgeKind::Version, Some(key)) => self.version(edge, key),
-            (EdgeKind::Read, Some(key)) => self.read(anomaly, edge, key),
-            (EdgeKind::Overwritten, Some(key)) => {
-                let words = self.overwritten(edge, key)?;
-                self.with_evidence(edge, words)
-            }
-        }
-    }
-
-    /// Why the first of an edge is before the second, where both wrote a key.
-    fn version(self, edge: CycleEdge, key: u64) -> Result<String, AllocError> {
-        let first = self.name(edge.first);
-        let second = self.name(edge.second);
-        let name = self.log.key(key);
-        match (edge.evidence, edge.read) {
-            (Evidence::Seen(seen), Some(read)) => {
-                let saw = self.sighting(seen)?;
-                let found = self.found(key, read)?;
-                format!(in self.alloc;
-                    "{first} wrote {name} before {second}: {saw} of {first}, and {found} of {second}"
-                )
-            }
-            (Evidence::Versions, _) => {
-                format!(in self.alloc; "{second} wrote a later version of {name} than {first}")
-            }
-            _ => format!(in self.alloc; "{second} wrote {name} after {first}"),
-        }
-    }
-
-    /// The words of a read that was written over, with what shows that.
-    fn with_evidence(self, edge: CycleEdge, words: String) -> Result<String, AllocError> {
-        let source = self.name(edge.source.unwrap_or(Writer::Opening));
-        match edge.evidence {
-            Evidence::Seen(seen) => {
-                let saw = self.sighting(seen)?;
-                format!(in self.alloc; "{words} ({saw}, and {source} wrote both)")
-            }
-            Evidence::Versions => format!(in self.alloc; "{words} (a later version)"),
-            Evidence::Turns => format!(in self.alloc; "{words} ({source} wrote that before)"),
-            _ => Ok(words),
-        }
-    }
-
-    /// Why the first of an edge is before the second, where the second read what the first wrote.
-    fn read(self, anomaly: Anomaly, edge: CycleEdge, key: u64) -> Result<String, AllocError> {
-        let need = edge.read.unwrap_or(Need::Absent);
-        let reading = self.reading(edge.second, key, need)?;
-        let writer = self.name(edge.first);
-        let pattern = read_pattern(anomaly, edge.first, matches!(need, Need::Absent));
-        match pattern.split_once('@') {
-            Some((front, back)) => format!(in self.alloc; "{reading}, {front}{writer}{back}"),
-            None => format!(in self.alloc; "{reading}, {pattern}"),
-        }
-    }
-
-    /// Why the first of an edge is before the second, where the second wrote over what the first read.
-    fn overwritten(self, edge: CycleEdge, key: u64) -> Result<String, AllocError> {
-        let need = edge.read.unwrap_or(Need::Absent);
-        let reading = self.reading(edge.first, key, need)?;
-        let writer = self.name(edge.second);
-        let Some(Some(value)) = edge.written else {
-            let verb = if edge.written.is_some() {
-                "deleted"
-            } else {
-                "overwrote"
-            };
-            return format!(in self.alloc; "{reading}, which {writer} {verb}");
-        };
-        let value = self.log.value(value);
-        match need {
-            Need::Absent => format!(in self.alloc; "{reading}, and {writer} set it to {value}"),
-            _ => format!(in self.alloc; "{reading}, which {writer} overwrote with {value}"),
+            Need::Absent => Part::Key("found ", key, " absent"),
+            Need::Present => Part::Key("found that ", key, " is there"),
+            Need::Value(value) => Part::Pair("read", key, self.log.value(value)),
         }
     }
 
     /// What a transaction left at a key.
-    fn left(self, key: u64, left: Option<u64>) -> Result<String, AllocError> {
+    fn left(self, key: u64, left: Option<u64>) -> Part<'a> {
         let key = self.log.key(key);
         match left {
-            None => format!(in self.alloc; "deleted {key}"),
-            Some(value) => {
-                let value = self.log.value(value);
-                format!(in self.alloc; "wrote {key} = {value}")
+            None => Part::Key("deleted ", key, ""),
+            Some(value) => Part::Pair("wrote", key, self.log.value(value)),
+        }
+    }
+}
+
+/// Why one transaction is before another.
+impl Teller<'_> {
+    /// What a read found, and who may have written that.
+    pub(crate) fn tell_read(self, told: &Told, text: &mut Text<'_>) {
+        let reader = self.name(Writer::Transaction(told.reader));
+        text.form("@ @: of ", &[reader, self.found(told.key, told.need)]);
+        for (place, writer) in told.writers.iter().enumerate() {
+            let pattern = if place == 0 { "@" } else { " or @" };
+            text.form(pattern, &[self.name(*writer)]);
+        }
+        text.put(others_of(told));
+    }
+
+    /// Why the first of an edge is before the second.
+    pub(crate) fn tell_edge(self, anomaly: Anomaly, edge: CycleEdge, text: &mut Text<'_>) {
+        let (first, second) = (self.name(edge.first), self.name(edge.second));
+        match (edge.kind, edge.key) {
+            (EdgeKind::Own(fault), _) => self.tell_own_fault(edge.second, fault, text),
+            (EdgeKind::Session, _) => {
+                text.form("@ is before @ in their session", &[first, second]);
+            }
+            (EdgeKind::RealTime, _) | (_, None) => {
+                text.form("@ was answered before @ was invoked", &[first, second]);
+            }
+            (EdgeKind::Version, Some(key)) => self.tell_version(edge, key, text),
+            (EdgeKind::Read, Some(key)) => self.tell_source(anomaly, edge, key, text),
+            (EdgeKind::Overwritten, Some(key)) => {
+                self.tell_overwritten(edge, key, text);
+                self.tell_evidence(edge, text);
             }
         }
     }
 
+    /// The words of `tell_edge`.
+    pub(crate) fn words_of(self, anomaly: Anomaly, edge: CycleEdge) -> Result<Vec<u8>, NoMemory> {
+        let mut words = Vec::new(self.alloc);
+        let mut text = Text::after(&mut words);
+        self.tell_edge(anomaly, edge, &mut text);
+        text.done()?;
+        Ok(words)
+    }
+
+    /// Why the first of an edge is before the second, where both wrote a key.
+    fn tell_version(self, edge: CycleEdge, key: u64, text: &mut Text<'_>) {
+        let (first, second) = (self.name(edge.first), self.name(edge.second));
+        let name = Part::Label(self.log.key(key));
+        match (edge.evidence, edge.read) {
+            (Evidence::Seen(seen), Some(read)) => {
+                let reader = self.name(Writer::Transaction(seen.reader));
+                let saw = self.found(seen.key, seen.read);
+                let found = self.found(key, read);
+                text.form(
+                    "@ wrote @ before @: @ @ of @, and @ of @",
+                    &[first, name, second, reader, saw, first, found, second],
+                );
+            }
+            (Evidence::Versions, _) => {
+                let pattern = "@ wrote a later version of @ than @";
+                text.form(pattern, &[second, name, first]);
+            }
+            _ => text.form("@ wrote @ after @", &[second, name, first]),
+        }
+    }
+
+    /// What shows that a read was written over.
+    fn tell_evidence(self, edge: CycleEdge, text: &mut Text<'_>) {
+        let source = self.name(edge.source.unwrap_or(Writer::Opening));
+        match edge.evidence {
+            Evidence::Seen(seen) => {
+                let reader = self.name(Writer::Transaction(seen.reader));
+                let saw = self.found(seen.key, seen.read);
+                text.form(" (@ @, and @ wrote both)", &[reader, saw, source]);
+            }
+            Evidence::Versions => text.put(" (a later version)"),
+            Evidence::Turns => text.form(" (@ wrote that before)", &[source]),
+            _ => {}
+        }
+    }
+
+    /// Why the first of an edge is before the second, where the second read what the first wrote.
+    fn tell_source(self, anomaly: Anomaly, edge: CycleEdge, key: u64, text: &mut Text<'_>) {
+        let need = edge.read.unwrap_or(Need::Absent);
+        let (reader, writer) = (self.name(edge.second), self.name(edge.first));
+        let is_absent = matches!(need, Need::Absent);
+        text.form("@ @, ", &[reader, self.found(key, need)]);
+        text.form(read_pattern(anomaly, edge.first, is_absent), &[writer]);
+    }
+
+    /// Why the first of an edge is before the second, where the second wrote over what the first read.
+    fn tell_overwritten(self, edge: CycleEdge, key: u64, text: &mut Text<'_>) {
+        let need = edge.read.unwrap_or(Need::Absent);
+        let (pattern, value) = match (edge.written, need) {
+            (None, _) => ("@ @, which @ overwrote", 0),
+            (Some(None), _) => ("@ @, which @ deleted", 0),
+            (Some(Some(value)), Need::Absent) => ("@ @, and @ set it to @", value),
+            (Some(Some(value)), _) => ("@ @, which @ overwrote with @", value),
+        };
+        let (reader, writer) = (self.name(edge.first), self.name(edge.second));
+        let value = Part::Label(self.log.value(value));
+        text.form(pattern, &[reader, self.found(key, need), writer, value]);
+    }
+
     /// How a transaction's own answers contradict each other. Operations are numbered from 1.
-    fn own_fault(self, owner: Writer, fault: OwnFault) -> Result<String, AllocError> {
+    fn tell_own_fault(self, owner: Writer, fault: OwnFault, text: &mut Text<'_>) {
         let owner = self.name(owner);
         let (earlier, operation) = fault.operations();
-        let earlier = earlier.unwrap_or(0).saturating_add(1);
-        let number = operation.saturating_add(1);
-        let (before, after) = match fault {
+        let earlier = Part::Number(earlier.unwrap_or(0).saturating_add(1));
+        let number = Part::Number(operation.saturating_add(1));
+        match fault {
             OwnFault::Contradicted {
                 key,
                 left,
                 found,
                 ..
-            } => (self.left(key, left)?, self.found(key, found)?),
+            } => {
+                let (left, found) = (self.left(key, left), self.found(key, found));
+                let pattern = "@ @, and then @ (operation @)";
+                text.form(pattern, &[owner, left, found, number]);
+            }
             OwnFault::Disagree {
                 key,
                 before,
                 after,
                 ..
             } => {
-                let before = self.found(key, before)?;
-                let before = format!(in self.alloc; "{before} (operation {earlier})")?;
-                (before, self.found(key, after)?)
+                let (before, after) = (self.found(key, before), self.found(key, after));
+                let pattern = "@ @ (operation @), and then @ (operation @)";
+                text.form(pattern, &[owner, before, earlier, after, number]);
             }
             OwnFault::Unordered { .. } => {
-                return format!(in self.alloc; "operation {number} of {owner} has a key twice");
+                text.form("operation @ of @ has a key twice", &[number, owner]);
             }
             OwnFault::Outside { key, .. } => {
-                let key = self.log.key(key);
-                return format!(in self.alloc;
-                    "operation {number} of {owner} is a scan that {key} is not in"
-                );
+                let pattern = "operation @ of @ is a scan that @ is not in";
+                text.form(pattern, &[number, owner, Part::Label(self.log.key(key))]);
             }
-        };
-        format!(in self.alloc; "{owner} {before}, and then {after} (operation {number})")
+        }
     }
+}
 
-    /// Appends the lines of what keeps a log from a level: each edge of a cycle in words, and in a column after them which transaction is
+/// Lines of text.
+impl Teller<'_> {
+    /// Adds the lines of what keeps a log from a level: each edge of a cycle in words, and in a column after them which transaction is
     /// before which; below them the reads that show that transactions of unknown status took place. Where steps alone show it, from which
     /// reads they start.
-    pub fn put_lines(self, cause: &Cause, lines: &mut Vec<u8>) -> Result<(), NoMemory> {
-        let mut texts = Vec::new(self.alloc);
-        let mut width: usize = 0;
+    pub fn put_lines(self, cause: &Cause, text: &mut Text<'_>) {
+        let Ok(width) = self.width_of(cause) else {
+            return text.lack_memory();
+        };
         for edge in cause.cycle.iter() {
-            let text = self.edge(cause.anomaly, *edge)?;
-            width = width.max(text.as_str().chars().count());
-            texts.push(text)?;
-        }
-        for (text, edge) in texts.iter().zip(cause.cycle.iter()) {
-            if cause.cycle.len() == 1 {
-                put(writeln!(lines, "  {text}"))?;
-            } else {
-                let text = text.as_str();
-                let first = self.name(edge.first);
-                let second = self.name(edge.second);
-                put(writeln!(lines, "  {text:<width$}    {first} before {second}"))?;
+            text.put("  ");
+            self.tell_edge(cause.anomaly, *edge, text);
+            if cause.cycle.len() > 1 {
+                let column = text.column();
+                text.marks(" ", width.saturating_sub(column));
+                let (first, second) = (self.name(edge.first), self.name(edge.second));
+                text.form("    @ before @", &[first, second]);
             }
+            text.put("\n");
         }
         for edge in cause.shown.iter() {
-            let words = self.edge(cause.anomaly, *edge)?;
-            let taken = self.name(edge.first);
-            put(writeln!(lines, "  {taken} took place: {words}"))?;
+            text.form("  @ took place: ", &[self.name(edge.first)]);
+            self.tell_edge(cause.anomaly, *edge, text);
+            text.put("\n");
         }
-        self.put_steps_lines(cause, lines)
+        self.put_steps_lines(cause, text);
     }
 
-    /// Appends the lines of what steps alone show.
-    fn put_steps_lines(self, cause: &Cause, lines: &mut Vec<u8>) -> Result<(), NoMemory> {
+    /// The column behind the longest words on an edge of a cycle.
+    fn width_of(self, cause: &Cause) -> Result<usize, NoMemory> {
+        let mut words = Vec::new(self.alloc);
+        let mut text = Text::after(&mut words);
+        let mut width = 0usize;
+        for edge in cause.cycle.iter() {
+            text.put("\n  ");
+            self.tell_edge(cause.anomaly, *edge, &mut text);
+            width = width.max(text.column());
+        }
+        text.done()?;
+        Ok(width)
+    }
+
+    /// Adds the lines of what steps alone show.
+    fn put_steps_lines(self, cause: &Cause, text: &mut Text<'_>) {
         if cause.steps == 0 {
-            return Ok(());
+            return;
         }
-        let steps = cause.steps;
-        put(writeln!(lines, "  by {steps} steps, from these answers:"))?;
+        let pattern = "  by @ steps, from these answers:\n";
+        text.form(pattern, &[Part::Number(cause.steps)]);
         for told in cause.told.iter() {
-            let words = self.told(told)?;
-            put(writeln!(lines, "    {words}"))?;
+            text.put("    ");
+            self.tell_read(told, text);
+            text.put("\n");
         }
-        Ok(())
     }
 }
 

@@ -28,7 +28,7 @@ pub struct Before {
     /// The value that was written: by the second where it wrote over what was read, and otherwise by the first.
     pub written: Option<u64>,
     /// The reason in words.
-    pub words: String,
+    pub words: Vec<u8>,
 }
 
 /// The edges of a cycle in the log of a run; None if one of its names is none of the schedule.
@@ -45,14 +45,14 @@ pub(crate) fn befores_of(
         let (Some(first), Some(second)) = (first, second) else {
             return Ok(None);
         };
-        let words = Teller { alloc, log }.edge(cause.anomaly, *edge)?;
+        let words = Teller { alloc, log }.words_of(cause.anomaly, *edge)?;
         befores.push(before_of(log, *edge, first, second, words))?;
     }
     Ok(Some(befores))
 }
 
 /// An edge between these sides.
-fn before_of(log: &Log, edge: CycleEdge, first: Side, second: Side, words: String) -> Before {
+fn before_of(log: &Log, edge: CycleEdge, first: Side, second: Side, words: Vec<u8>) -> Before {
     Before {
         first,
         second,

@@ -1,71 +1,74 @@
 //! A cycle as JSON. The members of an edge are in the order of their names.
 use crate::anomaly_words::{Teller, evidence_word, kind_word};
 use crate::before::{Before, Side};
-use hek_anomalies::{Anomaly, Cause, CycleEdge, EdgeKind, Evidence, OwnFault};
+use hek_anomalies::{Anomaly, Cause, CycleEdge, EdgeKind, Evidence, OwnFault, Told};
 use hek_history_log::Label;
 use hek_levels::{Need, Writer};
-use hek_report::Lines;
-use hek_rules::{NoMemory, Schedule};
+use hek_report::{Lines, Text};
+use hek_rules::Schedule;
 
 impl Teller<'_> {
     /// Puts the member `cycle`: why one transaction is before another, edge by edge.
-    pub fn put_cycle(self, cause: &Cause, out: &mut Lines) -> Result<(), NoMemory> {
-        self.put_edges("cycle", cause.anomaly, cause.cycle.as_slice(), out)
+    pub fn put_cycle(self, cause: &Cause, out: &mut Lines) {
+        self.put_edges("cycle", cause.anomaly, cause.cycle.as_slice(), out);
     }
 
     /// Puts the member `reads` where steps alone show an anomaly: the reads from which they start, with who may have written what they
     /// found.
-    pub fn put_reads(self, cause: &Cause, out: &mut Lines) -> Result<(), NoMemory> {
+    pub fn put_reads(self, cause: &Cause, out: &mut Lines) {
         if cause.steps == 0 {
-            return Ok(());
+            return;
         }
         out.put_key("reads");
         out.begin_array();
-        for one in cause.told.iter() {
-            let words = self.told(one)?;
-            out.begin_object();
-            self.put_writer("by", Writer::Transaction(one.reader), out);
-            put_label("key", self.log.key(one.key), out);
-            self.put_value("read", value_in(Some(one.need)), out);
-            out.put_text("words", words.as_str());
-            out.end_object();
+        for told in cause.told.iter() {
+            self.put_read(told, out);
         }
         out.end_array();
-        Ok(())
+    }
+
+    /// Puts the object of a read.
+    fn put_read(self, told: &Told, out: &mut Lines) {
+        let mut words = Vec::new(self.alloc);
+        let mut text = Text::after(&mut words);
+        self.tell_read(told, &mut text);
+        if text.done().is_err() {
+            return out.lack_memory();
+        }
+        out.begin_object();
+        self.put_writer("by", Writer::Transaction(told.reader), out);
+        put_label("key", self.log.key(told.key), out);
+        self.put_value("read", value_in(Some(told.need)), out);
+        out.put_bytes("words", words.as_slice());
+        out.end_object();
     }
 
     /// Puts the members `steps`, where steps alone show an anomaly, and `took_place`, the reads that show that transactions of unknown
     /// status took place, if there are some.
-    pub fn put_steps(self, cause: &Cause, out: &mut Lines) -> Result<(), NoMemory> {
+    pub fn put_steps(self, cause: &Cause, out: &mut Lines) {
         if cause.steps > 0 {
             out.put_number("steps", cause.steps as u64);
         }
-        if cause.shown.is_empty() {
-            return Ok(());
+        if !cause.shown.is_empty() {
+            self.put_edges("took_place", cause.anomaly, cause.shown.as_slice(), out);
         }
-        self.put_edges("took_place", cause.anomaly, cause.shown.as_slice(), out)
     }
 
     /// Puts a member with edges.
-    fn put_edges(
-        self,
-        name: &str,
-        anomaly: Anomaly,
-        edges: &[CycleEdge],
-        out: &mut Lines,
-    ) -> Result<(), NoMemory> {
+    fn put_edges(self, name: &str, anomaly: Anomaly, edges: &[CycleEdge], out: &mut Lines) {
         out.put_key(name);
         out.begin_array();
         for edge in edges {
-            let words = self.edge(anomaly, *edge)?;
-            self.put_edge(anomaly, *edge, words.as_str(), out);
+            self.put_edge(anomaly, *edge, out);
         }
         out.end_array();
-        Ok(())
     }
 
     /// Puts the object of an edge, with its reasons in words.
-    fn put_edge(self, anomaly: Anomaly, edge: CycleEdge, words: &str, out: &mut Lines) {
+    fn put_edge(self, anomaly: Anomaly, edge: CycleEdge, out: &mut Lines) {
+        let Ok(words) = self.words_of(anomaly, edge) else {
+            return out.lack_memory();
+        };
         out.begin_object();
         if !matches!(anomaly, Anomaly::UnwrittenRead | Anomaly::LaterWriteRead) {
             self.put_writer("from", edge.first, out);
@@ -81,7 +84,7 @@ impl Teller<'_> {
         self.put_value("read", value_in(edge.read), out);
         self.put_evidence(edge, out);
         self.put_writer("to", edge.second, out);
-        out.put_text("words", words);
+        out.put_bytes("words", words.as_slice());
         self.put_value("written", edge.written.unwrap_or(None), out);
         out.end_object();
     }
@@ -154,22 +157,17 @@ pub(crate) fn put_befores(schedule: &Schedule, befores: &[Before], out: &mut Lin
     out.put_key("cycle");
     out.begin_array();
     for before in befores {
-        put_before(schedule, before, out);
+        out.begin_object();
+        put_side("from", schedule, before.first, out);
+        out.put_maybe("key", before.key);
+        out.put_text("kind", kind_word(before.kind));
+        out.put_maybe("read", before.read);
+        put_side("to", schedule, before.second, out);
+        out.put_bytes("words", before.words.as_slice());
+        out.put_maybe("written", before.written);
+        out.end_object();
     }
     out.end_array();
-}
-
-/// The object of an edge of a run.
-fn put_before(schedule: &Schedule, before: &Before, out: &mut Lines) {
-    out.begin_object();
-    put_side("from", schedule, before.first, out);
-    out.put_maybe("key", before.key);
-    out.put_text("kind", kind_word(before.kind));
-    out.put_maybe("read", before.read);
-    put_side("to", schedule, before.second, out);
-    out.put_text("words", before.words.as_str());
-    out.put_maybe("written", before.written);
-    out.end_object();
 }
 
 /// The name of a transaction of a run, or null for the opening.

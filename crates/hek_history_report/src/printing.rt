@@ -3,8 +3,8 @@ use crate::before::{Before, Side};
 use crate::cycle::put_befores;
 use crate::together::Together;
 use hek_anomalies::Anomaly;
-use hek_report::{Lines, put_name};
-use hek_rules::{NoMemory, Schedule, TxnId};
+use hek_report::{Hole, Lines, Text};
+use hek_rules::{Schedule, TxnId};
 use hek_serial::Serializability;
 
 /// The words of a verdict.
@@ -31,19 +31,6 @@ fn verdict_of(together: &Together) -> Option<Serializability> {
     }
 }
 
-/// What is said where the search gave up.
-const UNKNOWN: &str = "not serializable by end time; whether in another order is unknown";
-
-/// Appends the verdict without the order and the cycle.
-pub fn put_word(together: &Together, lines: &mut Vec<u8>) -> Result<(), NoMemory> {
-    let word = match verdict_of(together) {
-        Some(verdict) => verdict_word(verdict),
-        None => UNKNOWN,
-    };
-    lines.extend_from_slice(word.as_bytes())?;
-    Ok(())
-}
-
 /// Puts the member `verdict` alone.
 pub fn put_short(together: &Together, out: &mut Lines) {
     match verdict_of(together) {
@@ -52,86 +39,72 @@ pub fn put_short(together: &Together, out: &mut Lines) {
     }
 }
 
-/// Appends the verdict on one line: `serializable`, `serializable in another order: b a`, or
+/// Adds the verdict without the order and the cycle.
+pub fn put_word(together: &Together, text: &mut Text<'_>) {
+    text.put(match verdict_of(together) {
+        Some(verdict) => verdict_word(verdict),
+        None => "not serializable by end time; whether in another order is unknown",
+    });
+}
+
+/// Adds the verdict on one line: `serializable`, `serializable in another order: b a`, or
 /// `not serializable: a before b, b before a`.
-pub fn put_phrase(
-    schedule: &Schedule,
-    together: &Together,
-    lines: &mut Vec<u8>,
-) -> Result<(), NoMemory> {
-    put_word(together, lines)?;
-    put_after(schedule, together, [": ", ": "], lines)
+pub fn put_phrase(schedule: &Schedule, together: &Together, text: &mut Text<'_>) {
+    put_word(together, text);
+    put_after(schedule, together, [": ", ": "], text);
 }
 
-/// Appends what is said beside a verdict: `; order b a`, or `; cycle a before b, b before a`; nothing for a verdict with
+/// Adds what is said beside a verdict: `; order b a`, or `; cycle a before b, b before a`; nothing for a verdict with
 /// neither.
-pub fn put_details(
-    schedule: &Schedule,
-    together: &Together,
-    lines: &mut Vec<u8>,
-) -> Result<(), NoMemory> {
-    put_after(schedule, together, ["; order ", "; cycle "], lines)
+pub fn put_details(schedule: &Schedule, together: &Together, text: &mut Text<'_>) {
+    put_after(schedule, together, ["; order ", "; cycle "], text);
 }
 
-/// Appends the order after the first of these words, or who comes before whom after the second.
-fn put_after(
-    schedule: &Schedule,
-    together: &Together,
-    words: [&str; 2],
-    lines: &mut Vec<u8>,
-) -> Result<(), NoMemory> {
+/// Adds the order after the first of these words, or who comes before whom after the second.
+fn put_after(schedule: &Schedule, together: &Together, words: [&str; 2], text: &mut Text<'_>) {
     let [before_order, before_cycle] = words;
     match together {
-        Together::ByEndTime | Together::Unknown => Ok(()),
+        Together::ByEndTime | Together::Unknown => {}
         Together::InAnotherOrder(order) => {
-            lines.extend_from_slice(before_order.as_bytes())?;
-            put_order(schedule, order.as_slice(), lines)
+            text.put(before_order);
+            put_order(schedule, order.as_slice(), text);
         }
         Together::NotSerial(anomaly, befores) => {
-            lines.extend_from_slice(before_cycle.as_bytes())?;
-            put_edges(schedule, *anomaly, befores.as_slice(), lines)
+            text.put(before_cycle);
+            put_edges(schedule, *anomaly, befores.as_slice(), text);
         }
     }
 }
 
 /// Names, with one space between them.
-fn put_order(schedule: &Schedule, order: &[TxnId], lines: &mut Vec<u8>) -> Result<(), NoMemory> {
+fn put_order(schedule: &Schedule, order: &[TxnId], text: &mut Text<'_>) {
     for (place, txn) in order.iter().enumerate() {
-        if place > 0 {
-            lines.push(b' ')?;
-        }
-        put_name(schedule, *txn, lines)?;
+        let pattern = if place == 0 { "@" } else { " @" };
+        text.form(pattern, &[Hole::txn(schedule, *txn)]);
     }
-    Ok(())
 }
 
 /// `a before b, b before a`; the anomaly's name where it is no cycle of several.
-fn put_edges(
-    schedule: &Schedule,
-    anomaly: Anomaly,
-    befores: &[Before],
-    lines: &mut Vec<u8>,
-) -> Result<(), NoMemory> {
+fn put_edges(schedule: &Schedule, anomaly: Anomaly, befores: &[Before], text: &mut Text<'_>) {
     if befores.len() < 2 {
-        lines.extend_from_slice(anomaly.name().as_bytes())?;
-        return Ok(());
+        return text.put(anomaly.name());
     }
     for (place, before) in befores.iter().enumerate() {
-        if place > 0 {
-            lines.extend_from_slice(b", ")?;
-        }
-        put_side(schedule, before.first, lines)?;
-        lines.extend_from_slice(b" before ")?;
-        put_side(schedule, before.second, lines)?;
+        let pattern = if place == 0 {
+            "@ before @"
+        } else {
+            ", @ before @"
+        };
+        let first = name_of(schedule, before.first);
+        text.form(pattern, &[first, name_of(schedule, before.second)]);
     }
-    Ok(())
 }
 
 /// The name of a transaction, or `the opening`.
-fn put_side(schedule: &Schedule, side: Side, lines: &mut Vec<u8>) -> Result<(), NoMemory> {
+fn name_of<'a>(schedule: &'a Schedule, side: Side) -> Hole<'a> {
     match side {
-        Side::Opening => Ok(lines.extend_from_slice(b"the opening")?),
-        Side::Txn(txn) => put_name(schedule, txn, lines),
+        Side::Opening => Hole::Word("the opening"),
+        Side::Txn(txn) => Hole::txn(schedule, txn),
     }
 }
 

@@ -51,6 +51,17 @@ fn set_levels(log: &mut Log, levels: Levels) {
     }
 }
 
+/// A log as levels see it.
+fn seen_of(
+    alloc: Global,
+    log: &Log,
+    binding: Binding,
+    lanes: &mut Lanes,
+) -> Result<hek_levels::Log, NoMemory> {
+    let turns = turns_of(alloc, log, binding, lanes)?;
+    log_of(alloc, &log.history, turns.as_slice())
+}
+
 impl Scene {
     /// The scene of a log, in which these facts bind.
     pub fn new(
@@ -62,8 +73,7 @@ impl Scene {
     ) -> Result<Scene, NoMemory> {
         set_levels(&mut log, levels);
         let mut lanes = Lanes::new(alloc);
-        let turns = turns_of(alloc, &log, binding, &mut lanes)?;
-        let seen = log_of(alloc, &log.history, turns.as_slice())?;
+        let seen = seen_of(alloc, &log, binding, &mut lanes)?;
         let guesses = guesses_of(alloc, &log)?;
         Ok(Scene {
             alloc,
@@ -79,8 +89,7 @@ impl Scene {
     /// The log as levels see it is made anew, after its history was changed.
     pub fn renew(&mut self) -> Result<(), NoMemory> {
         self.lanes = Lanes::new(self.alloc);
-        let turns = turns_of(self.alloc, &self.log, self.binding, &mut self.lanes)?;
-        self.seen = log_of(self.alloc, &self.log.history, turns.as_slice())?;
+        self.seen = seen_of(self.alloc, &self.log, self.binding, &mut self.lanes)?;
         Ok(())
     }
 

@@ -15,14 +15,15 @@ pub(crate) fn turns_of(
     lanes: &mut Lanes,
 ) -> Result<Vec<Vec<Turn>>, NoMemory> {
     let mut all = Vec::new(alloc);
+    let mut turns = Vec::new(alloc);
     for t in 0..log.history.transactions.len() {
-        let mut turns = Vec::new(alloc);
+        turns.clear();
         if let Some(transaction) = log.history.transactions.get(t) {
             if transaction.status != Status::Aborted {
                 add_turns(log, binding, t, transaction, lanes, &mut turns)?;
             }
         }
-        all.push(turns)?;
+        all.push(Vec::from_slice(alloc, turns.as_slice())?)?;
     }
     Ok(all)
 }

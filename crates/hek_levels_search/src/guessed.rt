@@ -3,6 +3,7 @@ use crate::judging::{Hint, hint_at};
 use crate::lists::{add, at, put};
 use crate::problem::{Problem, meets};
 use hek_history::Point;
+use hek_levels::{Log, is_committed};
 use hek_rules::NoMemory;
 use std::alloc::Global;
 
@@ -33,16 +34,9 @@ struct Guessed<'a> {
 }
 
 impl Guessed<'_> {
-    /// All who are known to have committed, as they are expected to.
-    fn fill(&mut self, hints: &[Hint]) -> Result<(), NoMemory> {
+    /// Takes the versions that those in the order leave.
+    fn fill(&mut self) -> Result<(), NoMemory> {
         let problem = self.problem;
-        for t in 0..problem.transactions() {
-            if problem.is_committed(t) {
-                add(&mut self.order, t)?;
-            }
-        }
-        self.order
-            .sort_unstable_by_key(|t| (hint_at(hints, *t).commit, *t));
         self.versions.resize(problem.table.len(), NO_VERSION)?;
         self.counts.resize(problem.keys.len(), 0)?;
         for place in 0..self.order.len() {
@@ -141,6 +135,33 @@ impl Guessed<'_> {
     }
 }
 
+/// All who are known to have committed, as they are expected to.
+fn order_of(alloc: Global, log: &Log, hints: &[Hint]) -> Result<Vec<usize>, NoMemory> {
+    let mut order = Vec::new(alloc);
+    for t in 0..log.transactions.len() {
+        if is_committed(log, t) {
+            add(&mut order, t)?;
+        }
+    }
+    order.sort_unstable_by_key(|t| (hint_at(hints, *t).commit, *t));
+    Ok(order)
+}
+
+/// The points by a guess of where transactions are, each of which reads where it commits.
+pub(crate) fn points_in_order(
+    alloc: Global,
+    log: &Log,
+    hints: &[Hint],
+) -> Result<Vec<Point>, NoMemory> {
+    let order = order_of(alloc, log, hints)?;
+    let mut points = Vec::with_capacity(alloc, order.len().saturating_mul(2))?;
+    for t in order.iter() {
+        add(&mut points, Point::Begin(*t))?;
+        add(&mut points, Point::Commit(*t))?;
+    }
+    Ok(points)
+}
+
 /// The points by a guess of where transactions are.
 pub(crate) fn points_by_guess(
     alloc: Global,
@@ -149,10 +170,10 @@ pub(crate) fn points_by_guess(
 ) -> Result<Vec<Point>, NoMemory> {
     let mut guessed = Guessed {
         problem,
-        order: Vec::new(alloc),
+        order: order_of(alloc, problem.log, hints)?,
         versions: Vec::new(alloc),
         counts: Vec::new(alloc),
     };
-    guessed.fill(hints)?;
+    guessed.fill()?;
     guessed.points(alloc)
 }

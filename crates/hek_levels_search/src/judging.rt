@@ -4,9 +4,9 @@ ghost use Rattle.hek_levels_search.specs.Verdicts.{IsVerdict, IsTurned};
 
 use crate::certificate::Making;
 use crate::front::points_from_front;
-use crate::guessed::points_by_guess;
+use crate::guessed::{points_by_guess, points_in_order};
 use crate::known::Known;
-use crate::listing::{Listed, are_few, list, list_all_of};
+use crate::listing::{Listed, are_few, has_scans, list, list_all_of};
 use crate::lists::{add, at};
 use crate::problem::{Absence, Problem, reduced};
 use crate::replay::Replay;
@@ -239,6 +239,9 @@ fn problem_of<'a>(
 
 /// All keys that scans miss are readings, if they are few.
 fn list_few(question: Question<'_>, listed: &mut Listed) -> Result<(), NoMemory> {
+    if !has_scans(question.log) {
+        return Ok(());
+    }
     let problem = problem_of(question, &[], &[])?;
     if !are_few(question.log, &problem) {
         return Ok(());
@@ -282,7 +285,8 @@ fn turn_sources(question: Question<'_>, known: &Known, replay: &Replay) -> Resul
     Ok(Turned::Judged(verdict))
 }
 
-/// The points by a guess, with these readings, as a verdict; or the keys with rows that scans miss there.
+/// The points by a guess, with these readings, as a verdict; or the keys with rows that scans miss there. Some transaction reads before it
+/// commits.
 fn guess_once(
     question: Question<'_>,
     listed: &[Absence],
@@ -293,7 +297,7 @@ fn guess_once(
 {
     let problem = problem_of(question, listed, &[])?;
     let points = points_by_guess(question.alloc, &problem, hints)?;
-    if problem.is_by_points && !is_whole(question.asked, question.log) {
+    if problem.is_by_points {
         return turn_points(question, &problem, points, most);
     }
     let verdict = judge_points(question.alloc, question.asked, question.log, points)?;
@@ -308,6 +312,10 @@ fn by_guess(
 ) -> Result<Verdict, NoMemory>
     ensures { IfOk result (λ verdict. IsVerdict question.entry.asked.now question.entry.log.now verdict) }
 {
+    if is_whole(question.asked, question.log) {
+        let points = points_in_order(question.alloc, question.log, hints)?;
+        return judge_points(question.alloc, question.asked, question.log, points);
+    }
     let mut most = AT_FIRST;
     for _ in 0..ROUNDS {
         match guess_once(question, listed.as_slice(), hints, most)? {
@@ -354,7 +362,6 @@ fn turn_outcome(
     known: &Known,
     replay: &mut Replay,
     outcome: Outcome,
-    is_assuming: bool,
     most: usize,
 ) -> Result<Turned, NoMemory>
     ensures { IfOk result (λ turned. IsTurned question.entry.asked.now question.entry.log.now turned) }
@@ -368,7 +375,7 @@ fn turn_outcome(
             replay.finish(known)?;
             turn_sources(question, known, replay)
         }
-        Outcome::Refuted(_) if is_assuming => Ok(Turned::Judged(Verdict::Unknown(NOWHERE))),
+        Outcome::Refuted(_) if known.is_assuming => Ok(Turned::Judged(Verdict::Unknown(NOWHERE))),
         Outcome::Refuted(conflict) => turn_steps(question, known, conflict),
         Outcome::Unknown(violations) => {
             let progress = Progress {
@@ -391,11 +398,10 @@ fn seek(
     ensures { IfOk result (λ turned. IsTurned question.entry.asked.now question.entry.log.now turned) }
 {
     let problem = problem_of(question, listed, assumed)?;
-    let is_assuming = !assumed.is_empty();
-    let mut known = prepared(question.alloc, &problem, hints, is_assuming);
+    let mut known = prepared(question.alloc, &problem, hints, !assumed.is_empty());
     let mut replay = Replay::new(question.alloc);
     let outcome = known.seek(question.effort, &mut replay)?;
-    turn_outcome(question, &known, &mut replay, outcome, is_assuming, most)
+    turn_outcome(question, &known, &mut replay, outcome, most)
 }
 
 /// Searches until no scan misses a key that has a row.
@@ -542,8 +548,8 @@ fn by_all_searches(question: Question<'_>, listed: &mut Listed) -> Result<Verdic
 }
 
 /// What a log is by the rules that are asked for: first by points as they are guessed, then by a search with up to `effort` repairs of an
-/// order, one for which many nodes are looked at counting as several, and where that ends without an answer by others that assume more.
-/// Each guess says where each transaction is expected; the first is that of the search. Without one it is expected at its place in
+/// order, one for which many nodes are looked at counting as several, and where that ends without an answer by others that assume more, each
+/// with a sixteenth of that. Each guess says where each transaction is expected; the first is that of the search. Without one it is expected at its place in
 /// the log.
 pub fn judge(
     alloc: Global,

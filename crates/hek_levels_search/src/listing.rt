@@ -51,6 +51,16 @@ pub(crate) fn list_all_of(
     Ok(())
 }
 
+/// Whether some transaction has a scan.
+pub(crate) fn has_scans(log: &Log) -> bool {
+    for t in 0..log.transactions.len() {
+        if !scans_of(log, t).is_empty() {
+            return true;
+        }
+    }
+    false
+}
+
 /// Whether all keys that scans miss are few together.
 pub(crate) fn are_few(log: &Log, problem: &Problem) -> bool {
     let mut count: usize = 0;

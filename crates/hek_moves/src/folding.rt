@@ -270,13 +270,15 @@ fn why_so(
     list: &[Reason],
     moves: &Moves,
 ) -> Result<Vec<u8>, NoMemory> {
-    let mut words = Sentence::new(alloc, schedule);
+    let mut why = Vec::new(alloc);
+    let mut words = Sentence::new(schedule, &mut why);
     if unwritten {
         words.put(UNWRITTEN);
     } else {
         say_why(alloc, step, kind, list, moves, &mut words)?;
     }
-    words.text().ok_or(NoMemory)
+    words.text.done()?;
+    Ok(why)
 }
 
 /// Keeps that a transaction has committed, if a step says so.

@@ -8,7 +8,6 @@ use hek_program::Always;
 use hek_report::Lines;
 use hek_rules::{Event, Schedule, TxnId};
 use std::alloc::Global;
-use std::str;
 
 /// Puts the member `moves`, an array with an object for each move, and the member `always`: whether each invariant holds of the opening
 /// rows. `lines` has the line in the text of each of its steps.
@@ -212,18 +211,12 @@ fn put_words(
     lines: &[u64],
     out: &mut Lines,
 ) {
-    let mut words = Sentence::new(alloc, schedule);
+    let mut said = Vec::new(alloc);
+    let mut words = Sentence::new(schedule, &mut said);
     say(made, moves, line_of(made, lines), &mut words);
-    match words.text() {
-        Some(text) => put_bytes("say", text.as_slice(), out),
-        None => out.lack_memory(),
+    match words.text.done() {
+        Ok(()) => out.put_bytes("say", said.as_slice()),
+        Err(_) => out.lack_memory(),
     }
-    put_bytes("why", made.why.as_slice(), out);
-}
-
-fn put_bytes(name: &str, text: &[u8], out: &mut Lines) {
-    match str::from_utf8(text) {
-        Ok(text) => out.put_text(name, text),
-        Err(_) => out.put_null(name),
-    }
+    out.put_bytes("why", made.why.as_slice());
 }

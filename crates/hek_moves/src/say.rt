@@ -1,11 +1,12 @@
 //! What is said of a move.
 use crate::moves::{Hold, Holder, Kind, Move, Moves};
-use crate::sentence::{Hole, Sentence, joint};
+use crate::sentence::{Sentence, joint};
+use hek_report::Hole;
 use hek_rules::{Event, TxnId};
 
 /// Says a move, of these moves. `line` is that of the text which a program left out.
 pub(crate) fn say(made: &Move, moves: &Moves, line: Option<u64>, out: &mut Sentence<'_>) {
-    let me = Hole::txn(made.txn);
+    let me = out.txn(made.txn);
     match &made.kind {
         Kind::Begins => out.form("@ begins", &[me]),
         Kind::Reads(value, _) => say_read(made, *value, out),
@@ -46,7 +47,7 @@ pub(crate) fn value_of(event: Event) -> Option<u64> {
 }
 
 fn say_read(made: &Move, value: Option<u64>, out: &mut Sentence<'_>) {
-    let (me, key) = (Hole::txn(made.txn), Hole::Number(key_of(made.event)));
+    let (me, key) = (out.txn(made.txn), Hole::Number(key_of(made.event)));
     match value {
         Some(value) => out.form("@ reads @: @", &[me, key, Hole::Number(value)]),
         None => out.form("@ reads @: no such row", &[me, key]),
@@ -56,7 +57,7 @@ fn say_read(made: &Move, value: Option<u64>, out: &mut Sentence<'_>) {
 fn say_scan(made: &Move, rows: &[(u64, u64)], out: &mut Sentence<'_>) {
     out.form(
         "@ scans bucket @: ",
-        &[Hole::txn(made.txn), Hole::Number(key_of(made.event))],
+        &[out.txn(made.txn), Hole::Number(key_of(made.event))],
     );
     if rows.is_empty() {
         out.put("nothing");
@@ -71,7 +72,7 @@ fn say_scan(made: &Move, rows: &[(u64, u64)], out: &mut Sentence<'_>) {
 }
 
 fn say_write(made: &Move, out: &mut Sentence<'_>) {
-    let (me, key) = (Hole::txn(made.txn), Hole::Number(key_of(made.event)));
+    let (me, key) = (out.txn(made.txn), Hole::Number(key_of(made.event)));
     let verb = match made.event {
         Event::Insert(_, _, _) => "inserts",
         Event::Delete(_, _) => "deletes",
@@ -94,26 +95,26 @@ fn say_miss(made: &Move, out: &mut Sentence<'_>) {
     let key = Hole::Number(key_of(made.event));
     out.form(
         "@ writes nothing: @ @",
-        &[Hole::txn(made.txn), key, Hole::Word(how)],
+        &[out.txn(made.txn), key, Hole::Word(how)],
     );
 }
 
 fn say_skip(txn: TxnId, line: Option<u64>, out: &mut Sentence<'_>) {
     match line {
-        Some(line) => out.form("@ leaves out line @", &[Hole::txn(txn), Hole::Number(line)]),
-        None => out.form("@ leaves out a step", &[Hole::txn(txn)]),
+        Some(line) => out.form("@ leaves out line @", &[out.txn(txn), Hole::Number(line)]),
+        None => out.form("@ leaves out a step", &[out.txn(txn)]),
     }
 }
 
 /// Says of some in a row who have the same hold what it is once, after the last of them.
 fn say_wait(txn: TxnId, holders: &[Holder], out: &mut Sentence<'_>) {
-    out.form("@ wants to commit, and waits for ", &[Hole::txn(txn)]);
+    out.form("@ wants to commit, and waits for ", &[out.txn(txn)]);
     let mut before = None;
     for (place, holder) in holders.iter().enumerate() {
         let hold = holder.hold;
         let is_last = !has_hold(holders.get(place.saturating_add(1)), hold);
         out.put(joint_of_holds(before, hold, is_last));
-        out.form("@", &[Hole::txn(holder.txn)]);
+        out.form("@", &[out.txn(holder.txn)]);
         if is_last {
             say_hold(hold, out);
         }
@@ -147,7 +148,7 @@ fn say_hold(hold: Hold, out: &mut Sentence<'_>) {
 }
 
 fn say_commit(txn: TxnId, moves: &Moves, out: &mut Sentence<'_>) {
-    out.form("@ commits", &[Hole::txn(txn)]);
+    out.form("@ commits", &[out.txn(txn)]);
     let count = moves.count_last(txn);
     let mut place = 0usize;
     for (at, it) in moves.items().iter().enumerate() {
@@ -201,7 +202,7 @@ impl Moves {
 }
 
 fn say_abort(made: &Move, out: &mut Sentence<'_>) {
-    let (me, key) = (Hole::txn(made.txn), Hole::Number(key_of(made.event)));
+    let (me, key) = (out.txn(made.txn), Hole::Number(key_of(made.event)));
     match made.event {
         Event::Read(_, _) => out.form("@ wants to read @, and aborts", &[me, key]),
         Event::Scan(_, _) => out.form("@ wants to scan bucket @, and aborts", &[me, key]),

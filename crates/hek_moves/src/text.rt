@@ -42,9 +42,11 @@ fn put_move_line(
     is_told: bool,
     out: &mut Vec<u8>,
 ) -> Result<(), NoMemory> {
-    let mut words = Sentence::new(alloc, schedule);
+    let mut said = Vec::new(alloc);
+    let mut words = Sentence::new(schedule, &mut said);
     say(made, moves, line_of(made, lines), &mut words);
-    put_plain(words.text().ok_or(NoMemory)?.as_slice(), out)?;
+    words.text.done()?;
+    put_plain(said.as_slice(), out)?;
     out.push(b'\n')?;
     if is_told && !made.why.is_empty() {
         out.extend_from_slice(b"  ")?;

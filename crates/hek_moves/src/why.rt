@@ -3,8 +3,9 @@ use crate::after::After;
 use crate::kind::add_holders;
 use crate::moves::{Holder, Kind, Moves};
 use crate::say::key_of;
-use crate::sentence::{Hole, Sentence, joint};
+use crate::sentence::{Sentence, joint};
 use hek_machine::Machine;
+use hek_report::Hole;
 use hek_rules::{Cause, Event, NoMemory, Reply, TxnId};
 use hek_why::{Met, Reason, Step, wait_reasons};
 use std::alloc::Global;
@@ -61,15 +62,12 @@ fn why_found(
     }
     if !moves.lanes.of(other).is_over {
         let pattern = "@ wrote it and is about to commit: @ may commit only if @ does";
-        return out.form(
-            pattern,
-            &[Hole::txn(other), Hole::txn(txn), Hole::txn(other)],
-        );
+        return out.form(pattern, &[out.txn(other), out.txn(txn), out.txn(other)]);
     }
     if moves.is_old(key, value) {
         return why_old(key, moves, out);
     }
-    out.form("@ wrote it", &[Hole::txn(other)]);
+    out.form("@ wrote it", &[out.txn(other)]);
 }
 
 /// Why a read finds what was there from the start, or nothing.
@@ -84,7 +82,7 @@ fn why_committed(txn: TxnId, key: u64, value: Option<u64>, moves: &Moves, out: &
         let key = Hole::Number(key);
         out.form(
             "@ has written @, but hasn't committed: its value isn't seen",
-            &[Hole::txn(other), key],
+            &[out.txn(other), key],
         );
     }
 }
@@ -225,37 +223,37 @@ fn say_added(txn: TxnId, added: &[TxnId], out: &mut Sentence<'_>) {
         ("have", "them")
     };
     let pattern = " @ looked there: @ will have to wait for @ before it commits";
-    out.form(
-        pattern,
-        &[Hole::Word(have), Hole::txn(txn), Hole::Word(them)],
-    );
+    out.form(pattern, &[Hole::Word(have), out.txn(txn), Hole::Word(them)]);
 }
 
 // ---- aborts
 
 fn why_abort(cause: Cause, event: Event, reasons: &[Reason], out: &mut Sentence<'_>) {
-    let (key, met) = (Hole::Number(key_of(event)), met_in(reasons));
-    match (cause, met) {
+    let key = key_of(event);
+    match (cause, met_in(reasons)) {
         (Cause::Conflict, Some(other)) => {
             let pattern = "@ has written @ already, and isn't over: the first writer wins";
-            out.form(pattern, &[Hole::txn(other), key]);
+            out.form(pattern, &[out.txn(other), Hole::Number(key)]);
         }
         (Cause::Conflict, None) => {
             let pattern = "Somebody has written @ since it began: the first to commit wins";
-            out.form(pattern, &[key]);
+            out.form(pattern, &[Hole::Number(key)]);
         }
         (Cause::NoMoreReads, Some(other)) => {
             let pattern = "@ overwrites @ and is about to commit: it takes no more readers";
-            out.form(pattern, &[Hole::txn(other), key]);
+            out.form(pattern, &[out.txn(other), Hole::Number(key)]);
         }
         (Cause::NoMoreWaits, Some(other)) => {
             let pattern = "@ has finished and waits for nobody new; this would have made it wait";
-            out.form(pattern, &[Hole::txn(other)]);
+            out.form(pattern, &[out.txn(other)]);
         }
         (Cause::NoMoreReads, None) => out.put("It takes no more readers"),
         (Cause::NoMoreWaits, None) => out.put("Somebody has finished and waits for nobody new"),
         (Cause::ReadersFull, _) => {
-            out.form("@ has as many readers as can be counted", &[key]);
+            out.form(
+                "@ has as many readers as can be counted",
+                &[Hole::Number(key)],
+            );
         }
         (Cause::Cascade, _) => why_cascade(reasons, out),
         (Cause::Asked, _) => out.put("It asked for it itself"),
@@ -281,7 +279,7 @@ fn why_cascade(reasons: &[Reason], out: &mut Sentence<'_>) {
     for reason in reasons {
         if let Reason::DoomedBy(other) = reason {
             let pattern = "It had seen what @ wrote, and @ has aborted";
-            return out.form(pattern, &[Hole::txn(*other), Hole::txn(*other)]);
+            return out.form(pattern, &[out.txn(*other), out.txn(*other)]);
         }
     }
     out.put("It had seen what another wrote, and that has aborted");
@@ -300,10 +298,7 @@ fn why_deadlock(reply: &Reply, out: &mut Sentence<'_>) {
         } else {
             *victim
         };
-        out.form("@ waits for @", &[Hole::txn(*txn), Hole::txn(next)]);
+        out.form("@ waits for @", &[out.txn(*txn), out.txn(next)]);
     }
-    out.form(
-        ". One of them has to go, and it is @",
-        &[Hole::txn(*victim)],
-    );
+    out.form(". One of them has to go, and it is @", &[out.txn(*victim)]);
 }

@@ -1,11 +1,10 @@
 //! What a step changed, in the lines of a state.
 use hek_machine::Machine;
-use hek_report::{is_named, put};
+use hek_report::{Hole, Text, is_named};
 use hek_rules::{NoMemory, Schedule, TxnId, VersionId};
 use hek_step_report::text::{clock_line, put_bucket, put_txn, put_version};
 use hek_why::Change;
 use std::alloc::Global;
-use std::io::Write;
 
 /// What has a line in the text of a state.
 #[derive(Clone, Copy, PartialEq)]
@@ -118,5 +117,7 @@ fn put_bucket_line(
 
 /// Appends a bucket that has no line any more.
 fn put_gone(bucket: u64, gone: &mut Vec<u8>) -> Result<(), NoMemory> {
-    put(writeln!(gone, "bucket {bucket}"))
+    let mut text = Text::after(gone);
+    text.form("bucket @\n", &[Hole::Number(bucket)]);
+    text.done()
 }

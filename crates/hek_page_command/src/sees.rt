@@ -2,11 +2,10 @@
 ghost use Rattle.hek_txn.specs.TxnTable.{Declared};
 
 use hek_machine::Machine;
-use hek_report::{is_named, put};
+use hek_report::{Hole, Text};
 use hek_rules::{Event, NoMemory, Reply, Schedule, Sight, State, TxnId, VersionId};
 use hek_why::{Reason, Step, looks, read_time, sights};
 use std::alloc::Global;
-use std::io::Write;
 
 /// Appends a line with the time at which the transaction of a step looks, as `at 3`, and a line for each version that it looks
 /// at: `0 seen`, `1 passed over`, `2 seen if a`, `3 passed over if a`. A step that walks looks at the versions of its walk
@@ -87,42 +86,29 @@ fn put_seen(
     if seen.is_empty() {
         return Ok(());
     }
+    let mut text = Text::after(lines);
     let time = read_time(machine, t).number();
-    put(writeln!(lines, "at {time}"))?;
+    text.form("at @\n", &[Hole::Number(time)]);
     for reason in seen {
         if let Reason::Looked { version, sight } = reason {
-            put_sight(schedule, *version, *sight, lines)?;
+            put_sight(schedule, *version, *sight, &mut text);
         }
     }
-    Ok(())
+    text.done()
 }
 
-fn put_sight(
-    schedule: &Schedule,
-    version: VersionId,
-    sight: Sight,
-    lines: &mut Vec<u8>,
-) -> Result<(), NoMemory> {
+fn put_sight(schedule: &Schedule, version: VersionId, sight: Sight, text: &mut Text<'_>) {
     let index = version.index();
-    let how = match sight {
-        Sight::Seen | Sight::SeenIf(_) => "seen",
-        Sight::Hidden | Sight::HiddenActive(_) | Sight::HiddenIf(_) => "passed over",
-    };
-    let written = match sight {
-        Sight::SeenIf(u) | Sight::HiddenIf(u) => {
-            let name = name_of(schedule, u);
-            writeln!(lines, "{index} {how} if {name}")
+    match sight {
+        Sight::Seen => text.form("@ seen\n", &[index]),
+        Sight::SeenIf(u) => {
+            let holes = [Hole::Number(index), Hole::txn(schedule, u)];
+            text.form("@ seen if @\n", &holes);
         }
-        _ => writeln!(lines, "{index} {how}"),
-    };
-    put(written)
-}
-
-/// The name of a transaction that the schedule declares.
-fn name_of(schedule: &Schedule, u: TxnId) -> &str {
-    if is_named(schedule, u) {
-        schedule.name_of(u)
-    } else {
-        "?"
+        Sight::Hidden | Sight::HiddenActive(_) => text.form("@ passed over\n", &[index]),
+        Sight::HiddenIf(u) => {
+            let holes = [Hole::Number(index), Hole::txn(schedule, u)];
+            text.form("@ passed over if @\n", &holes);
+        }
     }
 }

@@ -2,11 +2,10 @@
 ghost use Rattle.hek_txn.specs.TxnTable.{Declared};
 
 use hek_machine::Machine;
-use hek_report::put;
+use hek_report::{Hole, Text};
 use hek_rules::{Event, NoMemory, Reply, State, TxnId};
 use hek_why::{Reason, Step, commit_reasons, wait_reasons};
 use std::alloc::Global;
-use std::io::Write;
 
 /// The waits at the last look, and the transactions that were answered `waiting` and still wait.
 #[derive(Drop)]
@@ -66,15 +65,16 @@ impl Waits {
         ended: &mut Vec<u8>,
     ) -> Result<(), NoMemory> {
         let mut kept = Vec::new(alloc);
+        let mut text = Text::after(ended);
         for ask in &self.asked {
             if still_waits(machine, *ask) {
                 kept.push(*ask)?;
             } else {
-                put_number(ask.txn, ended)?;
+                text.form("@\n", &[Hole::Number(ask.txn.number())]);
             }
         }
         self.asked = kept;
-        Ok(())
+        text.done()
     }
 
     fn add_ask(&mut self, event: &Event, reply: &Reply) -> Result<(), NoMemory> {
@@ -88,12 +88,12 @@ impl Waits {
 
     /// Appends a line for each transaction that has asked and waits: `2 waits`, or `2 commits`.
     pub(crate) fn put_asked(&self, lines: &mut Vec<u8>) -> Result<(), NoMemory> {
+        let mut text = Text::after(lines);
         for ask in &self.asked {
-            let number = ask.txn.number();
             let kind = if ask.is_commit { "commits" } else { "waits" };
-            put(writeln!(lines, "{number} {kind}"))?;
+            text.form("@ @\n", &[Hole::Number(ask.txn.number()), Hole::Word(kind)]);
         }
-        Ok(())
+        text.done()
     }
 }
 
@@ -137,12 +137,14 @@ fn still_waits(machine: &Machine, ask: Ask) -> bool {
 /// A line for each wait of each transaction, by ID.
 fn wait_lines(alloc: Global, machine: &Machine) -> Result<Vec<u8>, NoMemory> {
     let mut lines = Vec::new(alloc);
+    let mut text = Text::after(&mut lines);
     for place in 0..machine.txns() {
         let t = TxnId::new(place + 1);
         if machine.is_declared(t) {
-            put_waits_of(alloc, machine, t, &mut lines)?;
+            put_waits_of(alloc, machine, t, &mut text)?;
         }
     }
+    text.done()?;
     Ok(lines)
 }
 
@@ -150,69 +152,49 @@ fn put_waits_of(
     alloc: Global,
     machine: &Machine,
     t: TxnId,
-    lines: &mut Vec<u8>,
+    text: &mut Text<'_>,
 ) -> Result<(), NoMemory>
     requires { Declared machine.now.txns t }
 {
     if machine.waits(t) > 0 {
         let reasons = wait_reasons(alloc, machine, t)?;
-        put_reasons(t, reasons.as_slice(), lines)?;
+        put_reasons(t, reasons.as_slice(), text);
     }
     if machine.commit_deps(t) > 0 {
         let reasons = commit_reasons(alloc, machine, t)?;
-        put_reasons(t, reasons.as_slice(), lines)?;
+        put_reasons(t, reasons.as_slice(), text);
     }
     Ok(())
 }
 
-fn put_reasons(t: TxnId, reasons: &[Reason], lines: &mut Vec<u8>) -> Result<(), NoMemory> {
+/// A line for each of whom a transaction waits for: without the bucket of a lock that its holder has given back.
+fn put_reasons(t: TxnId, reasons: &[Reason], text: &mut Text<'_>) {
+    let me = Hole::Number(t.number());
     for reason in reasons {
-        put_reason(t.number(), reason, lines)?;
-    }
-    Ok(())
-}
-
-fn put_reason(t: u64, reason: &Reason, lines: &mut Vec<u8>) -> Result<(), NoMemory> {
-    match reason {
-        Reason::ReadLocked { version, readers } => {
-            put_readers(t, readers.as_slice(), version.index(), lines)
+        match reason {
+            Reason::ReadLocked { version, readers } => {
+                for reader in readers.as_slice() {
+                    let holes = [
+                        me,
+                        Hole::Number(reader.number()),
+                        Hole::Number(version.index()),
+                    ];
+                    text.form("@ @ version @\n", &holes);
+                }
+            }
+            Reason::Listed {
+                holder,
+                bucket: Some(bucket),
+            } => {
+                let holes = [me, Hole::Number(holder.number()), Hole::Number(*bucket)];
+                text.form("@ @ bucket @\n", &holes);
+            }
+            Reason::Listed {
+                holder,
+                bucket: None,
+            } => text.form("@ @ bucket\n", &[me, Hole::Number(holder.number())]),
+            Reason::Depends(u) => text.form("@ @ commit\n", &[me, Hole::Number(u.number())]),
+            _ => {}
         }
-        Reason::Listed { holder, bucket } => put_listed(t, holder.number(), *bucket, lines),
-        Reason::Depends(u) => {
-            let u = u.number();
-            put(writeln!(lines, "{t} {u} commit"))
-        }
-        _ => Ok(()),
     }
-}
-
-fn put_readers(
-    t: u64,
-    readers: &[TxnId],
-    version: u64,
-    lines: &mut Vec<u8>,
-) -> Result<(), NoMemory> {
-    for reader in readers {
-        let reader = reader.number();
-        put(writeln!(lines, "{t} {reader} version {version}"))?;
-    }
-    Ok(())
-}
-
-/// A wait for a bucket's lock; without the bucket once the holder has given it back.
-fn put_listed(
-    t: u64,
-    holder: u64,
-    bucket: Option<u64>,
-    lines: &mut Vec<u8>,
-) -> Result<(), NoMemory> {
-    match bucket {
-        Some(bucket) => put(writeln!(lines, "{t} {holder} bucket {bucket}")),
-        None => put(writeln!(lines, "{t} {holder} bucket")),
-    }
-}
-
-fn put_number(t: TxnId, lines: &mut Vec<u8>) -> Result<(), NoMemory> {
-    let number = t.number();
-    put(writeln!(lines, "{number}"))
 }

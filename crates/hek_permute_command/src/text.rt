@@ -4,58 +4,42 @@ use crate::details::details_of;
 use crate::find::Found;
 use crate::given::Given;
 use crate::one::Played;
-use hek_asm::{canonical, put_reply};
+use hek_asm::canonical;
 use hek_history_report::{Together, put_details, put_phrase, verdict_word};
 use hek_permute::{Ending, Form, Outcome, Row, Tally};
-use hek_report::{HekFault, Printing, is_named, put};
-use hek_rules::{Level, NoMemory, Reply, Schedule, TxnId};
+use hek_report::{HekFault, Hole, Printing, Text};
+use hek_rules::{Level, NoMemory, Schedule, TxnId};
 use hek_run_command::put_run;
 use hek_step_report::Extras;
 use std::alloc::Global;
-use std::io::Write;
 
-/// Appends an outcome: how each transaction ended, the rows and the verdict, as a line of `hek permute` has them.
-fn put_outcome(schedule: &Schedule, outcome: &Outcome, text: &mut Vec<u8>) -> Result<(), NoMemory> {
+/// An outcome: how each transaction ended, the rows and the verdict, as a line of `hek permute` has them.
+fn put_outcome(schedule: &Schedule, outcome: &Outcome, text: &mut Text<'_>) {
     for (place, end) in outcome.ends().iter().enumerate() {
-        put_name(schedule, TxnId::new((place as u64).saturating_add(1)), text)?;
-        text.push(b' ')?;
-        put_end(*end, text)?;
-        text.extend_from_slice(b"; ")?;
+        let txn = TxnId::new((place as u64).saturating_add(1));
+        put_end(Hole::txn(schedule, txn), *end, text);
     }
-    put_reply(&Reply::Rows(outcome.rows().copy()?), text)?;
-    text.extend_from_slice(b"; ")?;
-    text.extend_from_slice(verdict_word(outcome.verdict()).as_bytes())?;
-    Ok(())
+    text.put("rows");
+    for (key, value) in outcome.rows().items() {
+        text.form(" @=@", &[Hole::Number(*key), Hole::Number(*value)]);
+    }
+    text.form("; @", &[Hole::Word(verdict_word(outcome.verdict()))]);
 }
 
-fn put_end(end: Ending, text: &mut Vec<u8>) -> Result<(), NoMemory> {
+fn put_end(name: Hole<'_>, end: Ending, text: &mut Text<'_>) {
     match end {
-        Ending::Committed => put_reply(&Reply::Committed, text),
-        Ending::Aborted(cause) => put_reply(&Reply::Aborted(cause), text),
-        Ending::Unended => {
-            text.extend_from_slice(b"unended")?;
-            Ok(())
-        }
+        Ending::Committed => text.form("@ committed; ", &[name]),
+        Ending::Aborted(cause) => text.form("@ aborted @; ", &[name, Hole::Word(cause.word())]),
+        Ending::Unended => text.form("@ unended; ", &[name]),
     }
-}
-
-/// The name of a transaction, if the schedule declares it.
-fn put_name(schedule: &Schedule, txn: TxnId, text: &mut Vec<u8>) -> Result<(), NoMemory> {
-    if is_named(schedule, txn) {
-        text.extend_from_slice(schedule.name_of(txn).as_bytes())?;
-    }
-    Ok(())
 }
 
 /// An order: the names, with one space between them.
-fn put_names(schedule: &Schedule, order: &[TxnId], text: &mut Vec<u8>) -> Result<(), NoMemory> {
+fn put_names(schedule: &Schedule, order: &[TxnId], text: &mut Text<'_>) {
     for (place, txn) in order.iter().enumerate() {
-        if place > 0 {
-            text.push(b' ')?;
-        }
-        put_name(schedule, *txn, text)?;
+        let pattern = if place > 0 { " @" } else { "@" };
+        text.form(pattern, &[Hole::txn(schedule, *txn)]);
     }
-    Ok(())
 }
 
 /// The line of an order with its outcome.
@@ -64,16 +48,14 @@ pub(crate) fn put_order(
     given: &Given<'_>,
     order: &[TxnId],
     outcome: &Outcome,
-    text: &mut Vec<u8>,
+    lines: &mut Vec<u8>,
 ) -> Result<(), NoMemory> {
-    put_names(given.schedule, order, text)?;
-    text.extend_from_slice(b" -> ")?;
-    put_judged(alloc, given, outcome, text)?;
-    if outcome.waited() {
-        text.extend_from_slice(b"; waited")?;
-    }
-    text.push(b'\n')?;
-    Ok(())
+    let mut text = Text::after(lines);
+    put_names(given.schedule, order, &mut text);
+    text.put(" -> ");
+    put_judged(alloc, given, outcome, &mut text)?;
+    text.put(if outcome.waited() { "; waited\n" } else { "\n" });
+    text.done()
 }
 
 /// An outcome, and the line of the first invariant that it breaks.
@@ -81,13 +63,17 @@ fn put_judged(
     alloc: Global,
     given: &Given<'_>,
     outcome: &Outcome,
-    text: &mut Vec<u8>,
+    text: &mut Text<'_>,
 ) -> Result<(), NoMemory> {
-    put_outcome(given.schedule, outcome, text)?;
-    match given.broken_by(alloc, outcome)? {
-        Some(line) => put(write!(text, "; breaks line {line}")),
-        None => Ok(()),
+    put_outcome(given.schedule, outcome, text);
+    if let Some(line) = given.broken_by(alloc, outcome)? {
+        put_broken(line, text);
     }
+    Ok(())
+}
+
+fn put_broken(line: u64, text: &mut Text<'_>) {
+    text.form("; breaks line @", &[Hole::Number(line)]);
 }
 
 /// A line with the number of orders, and a line for each outcome.
@@ -96,15 +82,22 @@ pub(crate) fn put_tally<'a>(
     given: &Given<'_>,
     form: Form,
     tally: &Tally,
-    text: &mut Vec<u8>,
+    lines: &mut Vec<u8>,
 ) -> Result<(), HekFault<'a>> {
-    let (orders, outcomes) = (orders_of(tally), tally.rows().len());
-    put(writeln!(text, "orders {orders} outcomes {outcomes}"))?;
+    let mut text = Text::after(lines);
+    text.form(
+        "orders @ outcomes @\n",
+        &[
+            Hole::Number(orders_of(tally)),
+            Hole::Number(tally.rows().len() as u64),
+        ],
+    );
     for row in tally.rows() {
         let verdict = row.outcome().verdict();
         let details = details_of(alloc, given, form, row.first(), verdict)?;
-        put_row(alloc, given, row, &details, text)?;
+        put_row(alloc, given, row, &details, &mut text)?;
     }
+    text.done()?;
     Ok(())
 }
 
@@ -114,16 +107,14 @@ fn put_row(
     given: &Given<'_>,
     row: &Row,
     details: &Together,
-    text: &mut Vec<u8>,
+    text: &mut Text<'_>,
 ) -> Result<(), NoMemory> {
-    let orders = row.orders();
-    put(write!(text, "{orders} "))?;
+    text.form("@ ", &[Hole::Number(row.orders())]);
     put_judged(alloc, given, row.outcome(), text)?;
-    let waited = row.waited();
-    put(write!(text, "; waited {waited}; first "))?;
-    put_names(given.schedule, row.first(), text)?;
-    put_details(given.schedule, details, text)?;
-    text.push(b'\n')?;
+    text.form("; waited @; first ", &[Hole::Number(row.waited())]);
+    put_names(given.schedule, row.first(), text);
+    put_details(given.schedule, details, text);
+    text.put("\n");
     Ok(())
 }
 
@@ -133,38 +124,34 @@ pub(crate) fn put_levels(
     alloc: Global,
     given: &Given<'_>,
     tallies: &[Tally],
-    text: &mut Vec<u8>,
+    lines: &mut Vec<u8>,
 ) -> Result<(), NoMemory> {
-    put_level_words(text)?;
+    let mut text = Text::after(lines);
+    put_level_words(&mut text);
     for (column, tally) in tallies.iter().enumerate() {
         for row in tally.rows() {
             if is_first(tallies, column, row.outcome()) {
-                put_counts(tallies, row.outcome(), text)?;
-                put_judged(alloc, given, row.outcome(), text)?;
-                text.push(b'\n')?;
+                put_counts(tallies, row.outcome(), &mut text);
+                put_judged(alloc, given, row.outcome(), &mut text)?;
+                text.put("\n");
             }
         }
     }
-    Ok(())
+    text.done()
 }
 
-fn put_level_words(text: &mut Vec<u8>) -> Result<(), NoMemory> {
+fn put_level_words(text: &mut Text<'_>) {
     for (place, level) in Level::ALL.iter().enumerate() {
-        if place > 0 {
-            text.push(b' ')?;
-        }
-        text.extend_from_slice(level.word().as_bytes())?;
+        let pattern = if place > 0 { " @" } else { "@" };
+        text.form(pattern, &[Hole::Word(level.word())]);
     }
-    text.push(b'\n')?;
-    Ok(())
+    text.put("\n");
 }
 
-fn put_counts(tallies: &[Tally], outcome: &Outcome, text: &mut Vec<u8>) -> Result<(), NoMemory> {
+fn put_counts(tallies: &[Tally], outcome: &Outcome, text: &mut Text<'_>) {
     for tally in tallies {
-        let count = count_of(tally, outcome);
-        put(write!(text, "{count} "))?;
+        text.form("@ ", &[Hole::Number(count_of(tally, outcome))]);
     }
-    Ok(())
 }
 
 /// The schedule whose steps are the events of one order.
@@ -179,8 +166,10 @@ pub(crate) fn put_played(
 }
 
 /// `none of N orders`.
-pub(crate) fn put_none(orders: u64, text: &mut Vec<u8>) -> Result<(), NoMemory> {
-    put(writeln!(text, "none of {orders} orders"))
+pub(crate) fn put_none(orders: u64, lines: &mut Vec<u8>) -> Result<(), NoMemory> {
+    let mut text = Text::after(lines);
+    text.form("none of @ orders\n", &[Hole::Number(orders)]);
+    text.done()
 }
 
 /// A comment with the moves, `# after M of N moves: NAMES`, and the schedule of their play. If a reply was looked for, its
@@ -199,27 +188,31 @@ pub(crate) fn put_found(alloc: Global, found: &Found, text: &mut Vec<u8>) -> Res
     Ok(())
 }
 
-fn put_heading(played: &Played, text: &mut Vec<u8>) -> Result<(), NoMemory> {
-    let made = played.moves.len();
-    let most = played.most;
-    put(write!(text, "# after {made} of {most} moves: "))?;
-    put_names(&played.schedule, played.moves.as_slice(), text)?;
-    text.push(b'\n')?;
-    Ok(())
+fn put_heading(played: &Played, lines: &mut Vec<u8>) -> Result<(), NoMemory> {
+    let mut text = Text::after(lines);
+    let (made, most) = (played.moves.len() as u64, played.most as u64);
+    text.form(
+        "# after @ of @ moves: ",
+        &[Hole::Number(made), Hole::Number(most)],
+    );
+    put_names(&played.schedule, played.moves.as_slice(), &mut text);
+    text.put("\n");
+    text.done()
 }
 
 /// The verdict on what was found, as a comment, if a verdict was looked for.
-fn put_together(found: &Found, text: &mut Vec<u8>) -> Result<(), NoMemory> {
+fn put_together(found: &Found, lines: &mut Vec<u8>) -> Result<(), NoMemory> {
     let Some(together) = &found.together else {
         return Ok(());
     };
-    text.extend_from_slice(b"# ")?;
-    put_phrase(&found.played.schedule, together, text)?;
+    let mut text = Text::after(lines);
+    text.put("# ");
+    put_phrase(&found.played.schedule, together, &mut text);
     if let Some(line) = found.breaks {
-        put(write!(text, "; breaks line {line}"))?;
+        put_broken(line, &mut text);
     }
-    text.push(b'\n')?;
-    Ok(())
+    text.put("\n");
+    text.done()
 }
 
 /// The last step of a schedule's trace with its reasons, as comments.

@@ -3,6 +3,7 @@ use crate::lines::Lines;
 use crate::name::is_named;
 use hek_rules::{Schedule, Time, TxnId, VersionId};
 use std::fmt::{Display, Write};
+use std::str;
 
 /// Brackets and names, and values without names.
 impl Lines {
@@ -64,6 +65,14 @@ impl Lines {
     pub fn put_text(&mut self, name: &str, text: &str) {
         self.put_key(name);
         self.write_text(text);
+    }
+
+    /// A text in UTF-8, or null for bytes that aren't.
+    pub fn put_bytes(&mut self, name: &str, bytes: &[u8]) {
+        match str::from_utf8(bytes) {
+            Ok(text) => self.put_text(name, text),
+            Err(_) => self.put_null(name),
+        }
     }
 
     pub fn put_number(&mut self, name: &str, number: u64) {

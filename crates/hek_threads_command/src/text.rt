@@ -7,11 +7,10 @@ ghost use Rattle.hek_worker.specs.History.{IsHistory, history_events, replies_in
 use crate::outcome::Outcome;
 use hek_asm::{put_reply, put_trace};
 use hek_history_report::{put_details, put_word};
-use hek_report::{put, put_name};
+use hek_report::{Hole, Text};
 use hek_rules::{Event, NoMemory, Reply, Schedule, TxnId};
 use hek_threads::Entry;
 use std::alloc::Global;
-use std::io::Write;
 
 /// The trace of a history.
 #[tactic(auto, using(crate::proofs::Histories::paired))]
@@ -74,40 +73,46 @@ fn text_of(
 pub(crate) fn put_outcome(
     schedule: &Schedule,
     outcome: &Outcome,
-    text: &mut Vec<u8>,
+    lines: &mut Vec<u8>,
 ) -> Result<(), NoMemory> {
-    put_ended(schedule, outcome, text)?;
-    text.extend_from_slice(b"; ")?;
-    put_word(&outcome.together, text)
-}
-
-/// How each transaction ended, and the committed rows.
-fn put_ended(schedule: &Schedule, outcome: &Outcome, text: &mut Vec<u8>) -> Result<(), NoMemory> {
+    let mut text = Text::after(lines);
     for (place, end) in outcome.ends.iter().enumerate() {
-        put_name(schedule, TxnId::new((place as u64).saturating_add(1)), text)?;
-        text.push(b' ')?;
-        put_reply(end, text)?;
-        text.extend_from_slice(b"; ")?;
+        let txn = TxnId::new((place as u64).saturating_add(1));
+        text.form("@ ", &[Hole::txn(schedule, txn)]);
+        put_reply(end, text.bytes())?;
+        text.put("; ");
     }
-    let rows = Reply::Rows(outcome.rows.copy()?);
-    put_reply(&rows, text)
+    text.put("rows");
+    for (key, value) in outcome.rows.items() {
+        text.form(" @=@", &[Hole::Number(*key), Hole::Number(*value)]);
+    }
+    text.put("; ");
+    put_word(&outcome.together, &mut text);
+    text.done()
 }
 
 /// How many outcomes there were in how many runs.
-pub(crate) fn put_heading(outcomes: usize, runs: u64, text: &mut Vec<u8>) -> Result<(), NoMemory> {
-    put(writeln!(text, "outcomes {outcomes}; runs {runs}"))
+pub(crate) fn put_heading(outcomes: usize, runs: u64, lines: &mut Vec<u8>) -> Result<(), NoMemory> {
+    let mut text = Text::after(lines);
+    text.form(
+        "outcomes @; runs @\n",
+        &[Hole::Number(outcomes as u64), Hole::Number(runs)],
+    );
+    text.done()
 }
 
-/// The line of an outcome, and of how many runs had it. In which other order it is serial, or who comes before whom, is
-/// that of the first run that had it.
+/// The line of an outcome, and of how many runs had it. In which other order it is serializable, or who comes before whom,
+/// is that of the first run that had it.
 pub(crate) fn put_seen(
     schedule: &Schedule,
     runs: u64,
     outcome: &Outcome,
-    text: &mut Vec<u8>,
+    lines: &mut Vec<u8>,
 ) -> Result<(), NoMemory> {
-    put(write!(text, "{runs} "))?;
-    put_outcome(schedule, outcome, text)?;
-    put_details(schedule, &outcome.together, text)?;
-    put(writeln!(text))
+    let mut text = Text::after(lines);
+    text.form("@ ", &[Hole::Number(runs)]);
+    put_outcome(schedule, outcome, text.bytes())?;
+    put_details(schedule, &outcome.together, &mut text);
+    text.put("\n");
+    text.done()
 }

@@ -73,7 +73,7 @@ function chainLayout(step, sights, time) {
   const k = isPhone ? 1 : Math.max(1, Math.min(1.28, each / (3.3 * u), (W / u - 20) / 19));
   const rowH = isPhone ? least * 1.15 : Math.min(each, 6.4 * u * k);
   const narrow = W < 36 * u;
-  const usual = (isPhone ? 7 : narrow ? 8.5 : 9.2) * u * k;
+  const usual = (isPhone ? 7 : narrow ? 8.8 : 9.2) * u * k;
   const values = longest ? Math.max(usual, (longest + 2.6) * u * k) : usual;
   const r = Math.min(rowH * 0.36, 0.9 * u * k);
   const marks = { from: values, readers: narrow || isPhone ? 2 : 3, r, wide: marksWidth(narrow || isPhone ? 2 : 3, r, u * k) };
@@ -141,12 +141,12 @@ function showChains() {
     out.push(`<line class="grid${isNow ? " nowline" : ""}" x1="${f1(X(t))}" x2="${f1(X(t))}" y1="${f1(axisH)}" y2="${f1(foot)}"/>`);
     if (plate && !lookH && X(t) > plate.from - 0.5 * u && X(t) < plate.from + plate.wide + 0.5 * u) continue;
     const half = isNow ? nowWide / 2 : widthOf(String(t), 0.95 * u) / 2;
-    if (!isNow && (X(t) - half < until + 0.3 * u || (t < now && X(t) + half > X(now) - nowWide / 2 - 0.3 * u))) continue;
+    if (!isNow && (X(t) - half < until + 0.3 * u || X(t) + half > (t < now ? X(now) - nowWide / 2 - 0.3 * u : endX - 0.8 * u))) continue;
     until = X(t) + half;
     out.push(`<text class="tick${isNow ? " at" : ""}" x="${f1(X(t))}" y="${f1(lookH + 1.05 * u)}" text-anchor="middle">${isNow ? (unit > 2.05 * u ? "now " : "") + t : t}</text>`);
   }
   const isUnderPlate = (from, to) => plate !== null && !lookH && from < plate.from + plate.wide + 0.2 * u && to > plate.from - 0.2 * u;
-  if (!isUnderPlate(endX - 0.5 * u, endX + 0.5 * u)) out.push(`<text class="tick inf" x="${f1(endX)}" y="${f1(lookH + 1.12 * u)}" text-anchor="middle">\u221e</text>`);
+  if (endX - X(now) > nowWide / 2 + 0.8 * u && !isUnderPlate(endX - 0.5 * u, endX + 0.5 * u)) out.push(`<text class="tick inf" x="${f1(endX)}" y="${f1(lookH + 1.12 * u)}" text-anchor="middle">\u221e</text>`);
   if (marks.wide && !isUnderPlate(marks.from + 0.25 * u, marks.from + 0.25 * u + widthOf("locks", 0.95 * u))) out.push(`<text class="tick" x="${f1(marks.from + 0.25 * u)}" y="${f1(lookH + 1.05 * u)}">${fitting(["locks"], marks.wide - 0.6 * u, 0.95 * u)}</text>`);
   const readers = readersHere();
   const tokens = [];

@@ -1,56 +1,41 @@
 //! What a transaction saw of a version, and why: both words, and the states of the transactions that they name.
 use crate::looks::looks_at;
 use hek_machine::Machine;
-use hek_report::{put, put_name};
-use hek_rules::{BeginRecord, NoMemory, Schedule, Sight, State, Time, TxnId, VersionId};
+use hek_report::{Hole, Text};
+use hek_rules::{BeginRecord, Schedule, Sight, State, Time, TxnId, VersionId};
 use hek_word::EndWord;
-use std::io::Write;
 
-/// `version 0 is seen: made at time 0, held by nobody (0000000000000000, 807FFFFFFFFFFFFF)`.
+/// `version 0 is seen at 3: made at 0, held by nobody (0000000000000000, 807FFFFFFFFFFFFF)`.
 pub(crate) fn put_looked(
     schedule: &Schedule,
     machine: &Machine,
     t: TxnId,
     v: VersionId,
     sight: Sight,
-    lines: &mut Vec<u8>,
-) -> Result<(), NoMemory> {
+    text: &mut Text<'_>,
+) {
     let (Some(begin), Some(end)) = (machine.begin_word(v), machine.end_word(v)) else {
-        return Ok(());
+        return;
     };
-    let index = v.index();
-    put(write!(lines, "version {index} "))?;
-    put_sight(schedule, sight, lines)?;
-    put_time(machine, t, lines)?;
-    put_made(schedule, machine, t, begin.content(), lines)?;
-    put(write!(lines, ", "))?;
-    put_ended(schedule, machine, t, end, lines)?;
-    let (begin, end) = (begin.bits(), end.bits());
-    put(write!(lines, " ({begin:016X}, {end:016X})"))
+    put_sight(schedule, v, sight, text);
+    text.form(" at @: ", &[Hole::Number(looks_at(machine, t).number())]);
+    put_made(schedule, machine, t, begin.content(), text);
+    text.put(", ");
+    put_ended(schedule, machine, t, end, text);
+    text.form(
+        " (@, @)",
+        &[Hole::Bits(begin.bits()), Hole::Bits(end.bits())],
+    );
 }
 
-fn put_sight(schedule: &Schedule, sight: Sight, lines: &mut Vec<u8>) -> Result<(), NoMemory> {
+fn put_sight(schedule: &Schedule, v: VersionId, sight: Sight, text: &mut Text<'_>) {
+    text.form("version @ is ", &[Hole::Number(v.index())]);
     match sight {
-        Sight::Seen => put(write!(lines, "is seen")),
-        Sight::Hidden => put(write!(lines, "is passed over")),
-        Sight::HiddenActive(_) => put(write!(lines, "is passed over")),
-        Sight::SeenIf(u) => {
-            put(write!(lines, "is seen if "))?;
-            put_name(schedule, u, lines)?;
-            put(write!(lines, " commits"))
-        }
-        Sight::HiddenIf(u) => {
-            put(write!(lines, "is passed over if "))?;
-            put_name(schedule, u, lines)?;
-            put(write!(lines, " commits"))
-        }
+        Sight::Seen => text.put("seen"),
+        Sight::Hidden | Sight::HiddenActive(_) => text.put("passed over"),
+        Sight::SeenIf(u) => text.form("seen if @ commits", &[Hole::txn(schedule, u)]),
+        Sight::HiddenIf(u) => text.form("passed over if @ commits", &[Hole::txn(schedule, u)]),
     }
-}
-
-/// The time at which the transaction looks.
-fn put_time(machine: &Machine, t: TxnId, lines: &mut Vec<u8>) -> Result<(), NoMemory> {
-    let ticks = looks_at(machine, t).number();
-    put(write!(lines, " at {ticks}: "))
 }
 
 fn put_made(
@@ -58,64 +43,49 @@ fn put_made(
     machine: &Machine,
     t: TxnId,
     begin: BeginRecord,
-    lines: &mut Vec<u8>,
-) -> Result<(), NoMemory> {
+    text: &mut Text<'_>,
+) {
     match begin {
-        BeginRecord::At(time) => match time.number() {
-            Time::INFINITY => put(write!(lines, "never made")),
-            ticks => put(write!(lines, "made at {ticks}")),
-        },
+        BeginRecord::At(time) => put_time("never made", "made at @", time, text),
         BeginRecord::By(u) => {
-            put(write!(lines, "made by "))?;
-            put_party(schedule, machine, t, u, lines)
+            text.form("made by @", &[Hole::txn(schedule, u)]);
+            put_party(machine, t, u, text);
         }
     }
 }
 
-fn put_ended(
-    schedule: &Schedule,
-    machine: &Machine,
-    t: TxnId,
-    end: EndWord,
-    lines: &mut Vec<u8>,
-) -> Result<(), NoMemory> {
+/// A time, or what is said in place of infinity.
+fn put_time(never: &str, pattern: &str, time: Time, text: &mut Text<'_>) {
+    match time.number() {
+        Time::INFINITY => text.put(never),
+        ticks => text.form(pattern, &[Hole::Number(ticks)]),
+    }
+}
+
+fn put_ended(schedule: &Schedule, machine: &Machine, t: TxnId, end: EndWord, text: &mut Text<'_>) {
     if let Some(u) = end.writer() {
-        put(write!(lines, "written over by "))?;
-        return put_party(schedule, machine, t, u, lines);
+        text.form("written over by @", &[Hole::txn(schedule, u)]);
+        return put_party(machine, t, u, text);
     }
     match end.time() {
-        None => put(write!(lines, "not written over")),
-        Some(time) => put_end_time(time, lines),
+        Some(time) => put_time("not written over", "ended at @", time, text),
+        None => text.put("not written over"),
     }
 }
 
-fn put_end_time(time: Time, lines: &mut Vec<u8>) -> Result<(), NoMemory> {
-    match time.number() {
-        Time::INFINITY => put(write!(lines, "not written over")),
-        ticks => put(write!(lines, "ended at {ticks}")),
-    }
-}
-
-/// The transaction that a word names, with its state, or `itself` if it is the one that looks.
-fn put_party(
-    schedule: &Schedule,
-    machine: &Machine,
-    t: TxnId,
-    u: TxnId,
-    lines: &mut Vec<u8>,
-) -> Result<(), NoMemory> {
-    put_name(schedule, u, lines)?;
+/// What is said of the transaction that a word names: its state, or `itself` if it is the one that looks.
+fn put_party(machine: &Machine, t: TxnId, u: TxnId, text: &mut Text<'_>) {
     if u == t {
-        return put(write!(lines, " itself"));
+        return text.put(" itself");
     }
     if !machine.is_declared(u) {
-        return Ok(());
+        return;
     }
-    let end = machine.end_time(u).number();
+    let end = Hole::Number(machine.end_time(u).number());
     match machine.state(u) {
-        State::Preparing => put(write!(lines, " (preparing, end {end})")),
-        State::Committed => put(write!(lines, " (committed, end {end})")),
-        State::Aborted(_) => put(write!(lines, " (aborted)")),
-        _ => put(write!(lines, " (active)")),
+        State::Preparing => text.form(" (preparing, end @)", &[end]),
+        State::Committed => text.form(" (committed, end @)", &[end]),
+        State::Aborted(_) => text.put(" (aborted)"),
+        _ => text.put(" (active)"),
     }
 }

@@ -1,9 +1,8 @@
 //! Where a transaction was stopped, and by what.
 use hek_machine::Machine;
-use hek_report::{put, put_name};
-use hek_rules::{Cause, NoMemory, Schedule, State, TxnId, VersionId};
+use hek_report::{Hole, Text};
+use hek_rules::{Cause, Schedule, State, TxnId, VersionId};
 use hek_why::Met;
-use std::io::Write;
 
 /// A stop at a version: what the transaction met there, and the word that says so.
 pub(crate) fn put_stopped(
@@ -13,106 +12,74 @@ pub(crate) fn put_stopped(
     v: VersionId,
     cause: Cause,
     met: Met,
-    lines: &mut Vec<u8>,
-) -> Result<(), NoMemory> {
+    text: &mut Text<'_>,
+) {
     match met {
-        Met::Writer(u) => put_writer(schedule, machine, v, cause, u, lines),
-        Met::Creator(u) => put_creator(schedule, machine, v, cause, u, lines),
-        Met::Readers(count) => put_readers(machine, v, count, lines),
+        Met::Writer(u) => {
+            put_version("@ writes over version @", Hole::txn(schedule, u), v, text);
+            text.put(writer_words(cause));
+            put_end_word(machine, v, text);
+        }
+        Met::Creator(u) => {
+            put_version("@ made version @", Hole::txn(schedule, u), v, text);
+            put_creator(machine, cause, u, text);
+            put_begin_word(machine, v, text);
+        }
+        Met::Readers(count) => {
+            text.form("version @ has @ readers", &[v.index(), u64::from(count)]);
+            put_end_word(machine, v, text);
+        }
         Met::EndedAt(time) => {
-            let (index, ticks) = (v.index(), time.number());
-            put(write!(lines, "version {index} was written over, at {ticks}"))?;
-            put_end_word(machine, v, lines)
+            let numbers = [v.index(), time.number()];
+            text.form("version @ was written over, at @", &numbers);
+            put_end_word(machine, v, text);
         }
         Met::MadeAt(time) => {
-            let (index, ticks) = (v.index(), time.number());
-            put(write!(
-                lines,
-                "version {index} of the key was made at {ticks}, after "
-            ))?;
-            put_name(schedule, t, lines)?;
-            put(write!(lines, " began"))?;
-            put_begin_word(machine, v, lines)
+            let numbers = [v.index(), time.number()];
+            text.form("version @ of the key was made at @, after ", &numbers);
+            text.form("@ began", &[Hole::txn(schedule, t)]);
+            put_begin_word(machine, v, text);
         }
     }
 }
 
-/// The writer of the version.
-fn put_writer(
-    schedule: &Schedule,
-    machine: &Machine,
-    v: VersionId,
-    cause: Cause,
-    u: TxnId,
-    lines: &mut Vec<u8>,
-) -> Result<(), NoMemory> {
-    let index = v.index();
-    put_name(schedule, u, lines)?;
-    put(write!(lines, " writes over version {index}"))?;
+/// A pattern with a name and a version.
+fn put_version(pattern: &str, name: Hole<'_>, v: VersionId, text: &mut Text<'_>) {
+    text.form(pattern, &[name, Hole::Number(v.index())]);
+}
+
+/// What the cause says of the writer of a version.
+fn writer_words(cause: Cause) -> &'static str {
     match cause {
-        Cause::NoMoreReads => put(write!(lines, ", which takes no more readers"))?,
-        Cause::NoMoreWaits => put(write!(lines, ", and has finished"))?,
-        _ => {}
+        Cause::NoMoreReads => ", which takes no more readers",
+        Cause::NoMoreWaits => ", and has finished",
+        _ => "",
     }
-    put_end_word(machine, v, lines)
 }
 
-/// The transaction that made the version. For an active one the line says what the cause rests on: that it has
+/// What is said of the transaction that made the version. For an active one it is what the cause rests on: that it has
 /// finished, or that it is active.
-fn put_creator(
-    schedule: &Schedule,
-    machine: &Machine,
-    v: VersionId,
-    cause: Cause,
-    u: TxnId,
-    lines: &mut Vec<u8>,
-) -> Result<(), NoMemory> {
-    let index = v.index();
-    put_name(schedule, u, lines)?;
-    put(write!(lines, " made version {index}"))?;
-    if machine.is_declared(u) {
-        let end = machine.end_time(u).number();
-        match (machine.state(u), cause) {
-            (State::Active, Cause::NoMoreWaits) => put(write!(lines, ", and has finished"))?,
-            (State::Active, _) => put(write!(lines, ", and is active"))?,
-            _ => put(write!(lines, ", and has end time {end}"))?,
-        }
+fn put_creator(machine: &Machine, cause: Cause, u: TxnId, text: &mut Text<'_>) {
+    if !machine.is_declared(u) {
+        return;
     }
-    put_begin_word(machine, v, lines)
-}
-
-fn put_readers(
-    machine: &Machine,
-    v: VersionId,
-    count: u8,
-    lines: &mut Vec<u8>,
-) -> Result<(), NoMemory> {
-    let index = v.index();
-    put(write!(lines, "version {index} has {count} readers"))?;
-    put_end_word(machine, v, lines)
+    let end = Hole::Number(machine.end_time(u).number());
+    match (machine.state(u), cause) {
+        (State::Active, Cause::NoMoreWaits) => text.put(", and has finished"),
+        (State::Active, _) => text.put(", and is active"),
+        _ => text.form(", and has end time @", &[end]),
+    }
 }
 
 /// The End word of a version, in parentheses.
-pub(crate) fn put_end_word(
-    machine: &Machine,
-    v: VersionId,
-    lines: &mut Vec<u8>,
-) -> Result<(), NoMemory> {
-    match machine.end_word(v) {
-        None => Ok(()),
-        Some(word) => {
-            let bits = word.bits();
-            put(write!(lines, " ({bits:016X})"))
-        }
+pub(crate) fn put_end_word(machine: &Machine, v: VersionId, text: &mut Text<'_>) {
+    if let Some(word) = machine.end_word(v) {
+        text.form(" (@)", &[Hole::Bits(word.bits())]);
     }
 }
 
-fn put_begin_word(machine: &Machine, v: VersionId, lines: &mut Vec<u8>) -> Result<(), NoMemory> {
-    match machine.begin_word(v) {
-        None => Ok(()),
-        Some(word) => {
-            let bits = word.bits();
-            put(write!(lines, " ({bits:016X})"))
-        }
+fn put_begin_word(machine: &Machine, v: VersionId, text: &mut Text<'_>) {
+    if let Some(word) = machine.begin_word(v) {
+        text.form(" (@)", &[Hole::Bits(word.bits())]);
     }
 }

@@ -3,11 +3,9 @@ use crate::text::looked::put_looked;
 use crate::text::met::{put_end_word, put_stopped};
 use crate::text::refused::put_refused;
 use hek_machine::Machine;
-use hek_report::{StateText, put, put_name, put_names};
+use hek_report::{Hole, StateText, Text};
 use hek_rules::{Cause, NoMemory, Schedule, State, TxnId, VersionId};
 use hek_why::{Reason, Step};
-use hek_word::{BeginWord, EndWord};
-use std::io::Write;
 
 /// Appends a line, after two spaces, for each reason of an event of t. The machine is the one before the event.
 pub fn put_reasons(
@@ -17,12 +15,13 @@ pub fn put_reasons(
     reasons: &[Reason],
     lines: &mut Vec<u8>,
 ) -> Result<(), NoMemory> {
+    let mut text = Text::after(lines);
     for reason in reasons {
-        put(write!(lines, "  "))?;
-        put_reason(schedule, machine, t, reason, lines)?;
-        put(writeln!(lines))?;
+        text.put("  ");
+        put_reason(schedule, machine, t, reason, &mut text);
+        text.put("\n");
     }
-    Ok(())
+    text.done()
 }
 
 /// Appends a line, after two spaces, for each reason of a step of t, with the name of the definition that decided it at
@@ -34,13 +33,13 @@ pub(crate) fn put_ruled_reasons(
     reasons: &[Reason],
     lines: &mut Vec<u8>,
 ) -> Result<(), NoMemory> {
+    let mut text = Text::after(lines);
     for reason in reasons {
-        put(write!(lines, "  "))?;
-        put_reason(schedule, step.before, t, reason, lines)?;
-        let name = reason.rule_name(step.reply);
-        put(writeln!(lines, " [{name}]"))?;
+        text.put("  ");
+        put_reason(schedule, step.before, t, reason, &mut text);
+        text.form(" [@]\n", &[Hole::Word(reason.rule_name(step.reply))]);
     }
-    Ok(())
+    text.done()
 }
 
 fn put_reason(
@@ -48,52 +47,82 @@ fn put_reason(
     machine: &Machine,
     t: TxnId,
     reason: &Reason,
-    lines: &mut Vec<u8>,
-) -> Result<(), NoMemory> {
+    text: &mut Text<'_>,
+) {
+    let me = Hole::txn(schedule, t);
     match reason {
         Reason::ReadLocked { version, readers } => {
-            put_read_locked(schedule, machine, t, *version, readers.as_slice(), lines)
+            put_read_locked(schedule, machine, t, *version, readers.as_slice(), text);
         }
-        Reason::Listed { holder, bucket } => put_listed(schedule, t, *holder, *bucket, lines),
-        Reason::Depends(u) => put_depends(schedule, t, *u, lines),
+        Reason::Listed { holder, bucket } => put_listed(schedule, t, *holder, *bucket, text),
+        Reason::Depends(u) => text.form(
+            "@ depends on @, which is preparing",
+            &[me, Hole::txn(schedule, *u)],
+        ),
         Reason::Looked { version, sight } => {
-            put_looked(schedule, machine, t, *version, *sight, lines)
+            put_looked(schedule, machine, t, *version, *sight, text);
         }
         Reason::Stopped {
             version,
             cause,
             met,
-        } => put_stopped(schedule, machine, t, *version, *cause, *met, lines),
-        Reason::DoomedBy(u) => put_doomed(schedule, t, *u, lines),
-        Reason::AbortedBefore(cause) => put_aborted(schedule, t, *cause, lines),
+        } => put_stopped(schedule, machine, t, *version, *cause, *met, text),
+        Reason::DoomedBy(u) => text.form(
+            "@ depended on @, which has aborted",
+            &[me, Hole::txn(schedule, *u)],
+        ),
+        Reason::AbortedBefore(cause) => put_aborted(me, *cause, text),
         Reason::WaitsFor {
             waiter,
             next,
             version,
-        } => put_edge(schedule, machine, *waiter, *next, *version, lines),
+        } => put_edge(schedule, machine, *waiter, *next, *version, text),
         Reason::Refused {
             refusal,
             phase,
             state,
             finished,
-        } => put_refused(schedule, t, *refusal, *phase, *state, *finished, lines),
+        } => put_refused(schedule, t, *refusal, *phase, *state, *finished, text),
         Reason::Holds {
             reads,
             buckets,
             waiters,
             writes,
-        } => put_holds(schedule, t, [*reads, *buckets, *waiters, *writes], lines),
+        } => put_holds(me, [*reads, *buckets, *waiters, *writes], text),
         Reason::Begin {
             version,
             before,
             after,
-        } => put_begin_words(*version, *before, *after, lines),
+        } => text.form(
+            "version @ begin @ -> @",
+            &words(*version, before.bits(), after.bits()),
+        ),
         Reason::End {
             version,
             before,
             after,
-        } => put_end_words(*version, *before, *after, lines),
+        } if before.bits() == after.bits() => text.form(
+            "version @ end @ stays",
+            &words(*version, before.bits(), after.bits()),
+        ),
+        Reason::End {
+            version,
+            before,
+            after,
+        } => text.form(
+            "version @ end @ -> @",
+            &words(*version, before.bits(), after.bits()),
+        ),
     }
+}
+
+/// A version, and a word of it before and after.
+fn words(v: VersionId, before: u64, after: u64) -> [Hole<'static>; 3] {
+    [
+        Hole::Number(v.index()),
+        Hole::Bits(before),
+        Hole::Bits(after),
+    ]
 }
 
 /// `b waits for a, which read-locks version 0 (8040000000000002)`.
@@ -103,14 +132,16 @@ fn put_read_locked(
     t: TxnId,
     v: VersionId,
     readers: &[TxnId],
-    lines: &mut Vec<u8>,
-) -> Result<(), NoMemory> {
-    put_name(schedule, t, lines)?;
-    put(write!(lines, " waits for "))?;
-    put_names(schedule, readers, lines)?;
-    let (index, verb) = (v.index(), if readers.len() == 1 { "locks" } else { "lock" });
-    put(write!(lines, ", which read-{verb} version {index}"))?;
-    put_end_word(machine, v, lines)
+    text: &mut Text<'_>,
+) {
+    text.form("@ waits for ", &[Hole::txn(schedule, t)]);
+    text.names(schedule, readers);
+    let verb = if readers.len() == 1 { "locks" } else { "lock" };
+    text.form(
+        ", which read-@ version @",
+        &[Hole::Word(verb), Hole::Number(v.index())],
+    );
+    put_end_word(machine, v, text);
 }
 
 /// `b waits for a, which locks bucket 0`, or, if a has given the bucket back, `b waits for a, which lists it`.
@@ -119,50 +150,22 @@ fn put_listed(
     t: TxnId,
     holder: TxnId,
     bucket: Option<u64>,
-    lines: &mut Vec<u8>,
-) -> Result<(), NoMemory> {
-    put_name(schedule, t, lines)?;
-    put(write!(lines, " waits for "))?;
-    put_name(schedule, holder, lines)?;
+    text: &mut Text<'_>,
+) {
+    let (me, holder) = (Hole::txn(schedule, t), Hole::txn(schedule, holder));
     match bucket {
-        Some(bucket) => put(write!(lines, ", which locks bucket {bucket}")),
-        None => put(write!(lines, ", which lists it")),
+        Some(bucket) => text.form(
+            "@ waits for @, which locks bucket @",
+            &[me, holder, Hole::Number(bucket)],
+        ),
+        None => text.form("@ waits for @, which lists it", &[me, holder]),
     }
 }
 
-fn put_depends(
-    schedule: &Schedule,
-    t: TxnId,
-    u: TxnId,
-    lines: &mut Vec<u8>,
-) -> Result<(), NoMemory> {
-    put_name(schedule, t, lines)?;
-    put(write!(lines, " depends on "))?;
-    put_name(schedule, u, lines)?;
-    put(write!(lines, ", which is preparing"))
-}
-
-fn put_doomed(
-    schedule: &Schedule,
-    t: TxnId,
-    u: TxnId,
-    lines: &mut Vec<u8>,
-) -> Result<(), NoMemory> {
-    put_name(schedule, t, lines)?;
-    put(write!(lines, " depended on "))?;
-    put_name(schedule, u, lines)?;
-    put(write!(lines, ", which has aborted"))
-}
-
-fn put_aborted(
-    schedule: &Schedule,
-    t: TxnId,
-    cause: Cause,
-    lines: &mut Vec<u8>,
-) -> Result<(), NoMemory> {
-    put_name(schedule, t, lines)?;
-    let stands = StateText(State::Aborted(cause));
-    put(write!(lines, " is {stands} already"))
+fn put_aborted(me: Hole<'_>, cause: Cause, text: &mut Text<'_>) {
+    text.form("@ is ", &[me]);
+    text.show(&StateText(State::Aborted(cause)));
+    text.put(" already");
 }
 
 /// `b waits for a, which read-locks version 0 (8040000000000002)`, or `b waits for a, which lists it`.
@@ -172,48 +175,25 @@ fn put_edge(
     waiter: TxnId,
     next: TxnId,
     version: Option<VersionId>,
-    lines: &mut Vec<u8>,
-) -> Result<(), NoMemory> {
+    text: &mut Text<'_>,
+) {
     match version {
-        Some(v) => put_read_locked(schedule, machine, waiter, v, &[next], lines),
-        None => put_listed(schedule, waiter, next, None, lines),
+        Some(v) => put_read_locked(schedule, machine, waiter, v, &[next], text),
+        None => put_listed(schedule, waiter, next, None, text),
     }
 }
 
 /// What a transaction has left to give back and to stamp.
-fn put_holds(
-    schedule: &Schedule,
-    t: TxnId,
-    counts: [usize; 4],
-    lines: &mut Vec<u8>,
-) -> Result<(), NoMemory> {
+fn put_holds(me: Hole<'_>, counts: [usize; 4], text: &mut Text<'_>) {
     let [reads, buckets, waiters, writes] = counts;
-    put_name(schedule, t, lines)?;
-    put(write!(
-        lines,
-        " has left: reads {reads}, buckets {buckets}, waiting {waiters}, writes {writes}"
-    ))
-}
-
-fn put_begin_words(
-    v: VersionId,
-    before: BeginWord,
-    after: BeginWord,
-    lines: &mut Vec<u8>,
-) -> Result<(), NoMemory> {
-    let (index, before, after) = (v.index(), before.bits(), after.bits());
-    put(write!(lines, "version {index} begin {before:016X} -> {after:016X}"))
-}
-
-fn put_end_words(
-    v: VersionId,
-    before: EndWord,
-    after: EndWord,
-    lines: &mut Vec<u8>,
-) -> Result<(), NoMemory> {
-    let (index, before, after) = (v.index(), before.bits(), after.bits());
-    if before == after {
-        return put(write!(lines, "version {index} end {before:016X} stays"));
-    }
-    put(write!(lines, "version {index} end {before:016X} -> {after:016X}"))
+    text.form(
+        "@ has left: reads @, buckets @, waiting @, writes @",
+        &[
+            me,
+            Hole::Number(reads as u64),
+            Hole::Number(buckets as u64),
+            Hole::Number(waiters as u64),
+            Hole::Number(writes as u64),
+        ],
+    );
 }

@@ -1,9 +1,8 @@
 //! Why an event was refused.
 use crate::phase::phase_text;
-use hek_report::{StateText, put, put_name};
-use hek_rules::{NoMemory, Refusal, Schedule, State, TxnId};
+use hek_report::{Hole, StateText, Text};
+use hek_rules::{Refusal, Schedule, State, TxnId};
 use hek_why::Phase;
-use std::io::Write;
 
 /// The state of the transaction, and the phase that the event wants.
 pub(crate) fn put_refused(
@@ -13,22 +12,24 @@ pub(crate) fn put_refused(
     phase: Phase,
     state: State,
     finished: bool,
-    lines: &mut Vec<u8>,
-) -> Result<(), NoMemory> {
+    text: &mut Text<'_>,
+) {
     if refusal == Refusal::ClockFull {
-        return put(write!(lines, "no time is left to draw"));
+        return text.put("no time is left to draw");
     }
-    put_name(schedule, t, lines)?;
+    let name = Hole::txn(schedule, t);
     if refusal == Refusal::UnknownTxn {
-        return put(write!(lines, " is not declared"));
+        return text.form("@ is not declared", &[name]);
     }
-    let stands = StateText(state);
-    put(write!(lines, " is {stands}"))?;
-    match (state, finished) {
-        (State::Active, true) => put(write!(lines, " and finished"))?,
-        (State::Active, false) => put(write!(lines, " and not finished"))?,
-        _ => {}
-    }
-    let phase = phase_text(phase);
-    put(write!(lines, ", and the event is for one that is {phase}"))
+    text.form("@ is ", &[name]);
+    text.show(&StateText(state));
+    let more = match (state, finished) {
+        (State::Active, true) => " and finished",
+        (State::Active, false) => " and not finished",
+        _ => "",
+    };
+    text.form(
+        "@, and the event is for one that is @",
+        &[Hole::Word(more), Hole::Word(phase_text(phase))],
+    );
 }

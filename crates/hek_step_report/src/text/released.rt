@@ -1,10 +1,9 @@
 //! What a release gave back, in words.
 use crate::released::{Release, release_in};
 use crate::rule_choice::reply_rule;
-use hek_report::{put, put_name};
+use hek_report::{Hole, Text};
 use hek_rules::{NoMemory, Schedule, TxnId, VersionId};
 use hek_why::Step;
-use std::io::Write;
 
 /// Appends the line of what the release of a step gave back, after two spaces, if it is one that gave something back. With
 /// `ruled` the definition that decided it is at the end.
@@ -17,80 +16,75 @@ pub fn put_release(
     let (Some(release), Some(txn)) = (release_in(step), step.event.txn()) else {
         return Ok(());
     };
-    put(write!(lines, "  "))?;
-    put_given(schedule, txn, release, lines)?;
+    let mut text = Text::after(lines);
+    text.put("  ");
+    put_given(schedule, txn, release, &mut text);
     if ruled {
         let name = reply_rule(step, &[]).definition;
-        put(write!(lines, " [{name}]"))?;
+        text.form(" [@]", &[Hole::Word(name)]);
     }
-    put(writeln!(lines))
+    text.put("\n");
+    text.done()
 }
 
-fn put_given(
-    schedule: &Schedule,
-    txn: TxnId,
-    release: Release,
-    lines: &mut Vec<u8>,
-) -> Result<(), NoMemory> {
+fn put_given(schedule: &Schedule, txn: TxnId, release: Release, text: &mut Text<'_>) {
+    let name = Hole::txn(schedule, txn);
     match release {
         Release::LastRead(version, writer, waits) => {
-            let index = version.index();
-            put_name(schedule, txn, lines)?;
-            put(write!(lines, " was the last reader of version {index}, which "))?;
-            put_name(schedule, writer, lines)?;
-            put(write!(lines, " writes; "))?;
-            put_left(schedule, writer, waits, lines)
+            let (version, writer) = (Hole::Number(version.index()), Hole::txn(schedule, writer));
+            text.form(
+                "@ was the last reader of version @, which @ writes; ",
+                &[name, version, writer],
+            );
+            put_left(writer, waits, text);
         }
         Release::Read(version, writer, readers) => {
-            put_name(schedule, txn, lines)?;
-            put_read(schedule, version, writer, readers, lines)
+            put_read(schedule, name, version, writer, text);
+            put_readers(readers, text);
         }
-        Release::Bucket(bucket) => {
-            put_name(schedule, txn, lines)?;
-            put(write!(lines, " locked bucket {bucket}"))
-        }
+        Release::Bucket(bucket) => text.form("@ locked bucket @", &[name, Hole::Number(bucket)]),
         Release::Waiter(waiter, waits) => {
-            put_name(schedule, waiter, lines)?;
-            put(write!(lines, " waited for "))?;
-            put_name(schedule, txn, lines)?;
-            put(write!(lines, ", which listed it; "))?;
-            put_left(schedule, waiter, waits, lines)
+            let waiter = Hole::txn(schedule, waiter);
+            text.form("@ waited for @, which listed it; ", &[waiter, name]);
+            put_left(waiter, waits, text);
         }
     }
 }
 
-/// ` read-locked version 0, which b writes; 2 other readers are left`.
-fn put_read(
-    schedule: &Schedule,
+/// `a read-locked version 0, which b writes`.
+fn put_read<'a>(
+    schedule: &'a Schedule,
+    name: Hole<'a>,
     version: VersionId,
     writer: Option<TxnId>,
-    readers: u8,
-    lines: &mut Vec<u8>,
-) -> Result<(), NoMemory> {
-    let index = version.index();
-    put(write!(lines, " read-locked version {index}, which "))?;
-    match writer {
-        Some(writer) => put_name(schedule, writer, lines)?,
-        None => put(write!(lines, "nobody"))?,
-    }
-    put(write!(lines, " writes"))?;
+    text: &mut Text<'_>,
+) {
+    let writer = match writer {
+        Some(writer) => Hole::txn(schedule, writer),
+        None => Hole::Word("nobody"),
+    };
+    text.form(
+        "@ read-locked version @, which @ writes",
+        &[name, Hole::Number(version.index()), writer],
+    );
+}
+
+/// `; 2 other readers are left`.
+fn put_readers(readers: u8, text: &mut Text<'_>) {
     match readers {
-        0 => Ok(()),
-        1 => put(write!(lines, "; 1 other reader is left")),
-        _ => put(write!(lines, "; {readers} other readers are left")),
+        0 => {}
+        1 => text.put("; 1 other reader is left"),
+        _ => text.form(
+            "; @ other readers are left",
+            &[Hole::Number(u64::from(readers))],
+        ),
     }
 }
 
 /// `b waits for nobody any more`, or `b waits for 2 more`.
-fn put_left(
-    schedule: &Schedule,
-    waiter: TxnId,
-    waits: u64,
-    lines: &mut Vec<u8>,
-) -> Result<(), NoMemory> {
-    put_name(schedule, waiter, lines)?;
+fn put_left(waiter: Hole<'_>, waits: u64, text: &mut Text<'_>) {
     match waits {
-        0 => put(write!(lines, " waits for nobody any more")),
-        _ => put(write!(lines, " waits for {waits} more")),
+        0 => text.form("@ waits for nobody any more", &[waiter]),
+        _ => text.form("@ waits for @ more", &[waiter, Hole::Number(waits)]),
     }
 }

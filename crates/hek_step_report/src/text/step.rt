@@ -8,10 +8,9 @@ use crate::text::reason::{put_reasons, put_ruled_reasons};
 use crate::text::released::put_release;
 use crate::told::{Told, Why};
 use hek_asm::put_line;
-use hek_report::put;
+use hek_report::{Hole, Text};
 use hek_rules::{NoMemory, Schedule, TxnId};
 use hek_why::{Reason, Step};
-use std::io::Write;
 
 /// Appends the line of a step, and under it what is told beside its event and reply: reasons first, then changes.
 pub fn put_told(schedule: &Schedule, told: &Told<'_>, lines: &mut Vec<u8>) -> Result<(), NoMemory>
@@ -51,6 +50,8 @@ fn put_why(schedule: &Schedule, told: &Told<'_>, lines: &mut Vec<u8>) -> Result<
 
 /// The definition that decided the reply, in a line of its own.
 fn put_rule(step: &Step<'_>, reasons: &[Reason], lines: &mut Vec<u8>) -> Result<(), NoMemory> {
+    let mut text = Text::after(lines);
     let name = reply_rule(step, reasons).definition;
-    put(writeln!(lines, "  rule: {name}"))
+    text.form("  rule: @\n", &[Hole::Word(name)]);
+    text.done()
 }
