@@ -55,10 +55,10 @@ def has_members(whole, part):
 
 
 def has_lines(whole, part):
-    """Whether the first line of a fault is there, and of its explanation, or of notes, no line that the whole one hasn't."""
+    """Whether the line of a fault is there, if it is not on standard output, and of its explanation, or of notes, no line that the whole one hasn't."""
     lines = whole.splitlines()
-    is_note = lines[:1] and lines[0].startswith(b"hek: note: ")
-    return (is_note or part.splitlines()[:1] == lines[:1]) and all(it in lines for it in part.splitlines())
+    has_fault = lines[:1] and lines[0].startswith(b"hek: ") and not lines[0].startswith(b"hek: note: ")
+    return (not has_fault or part.splitlines()[:1] == lines[:1]) and all(it in lines for it in part.splitlines())
 
 
 def wrong(words, whole, ran):

@@ -6,7 +6,6 @@ import json
 import os
 import random
 import re
-import shutil
 import tempfile
 
 import kit
@@ -128,28 +127,6 @@ def debug(folder):
 def anomalies(folder, schedules):
     for number, it in named(folder, ".levels"):
         yield number, compare_stored, (f"anomalies/{it}", ["permute", "--levels", f"{schedules}/{it}.hek"], 0, f"{folder}/{it}.levels")
-
-
-# ---- lines: telling command lines, each over the files beside it
-
-
-def compare_line(folder, line, wanted):
-    """A command line over a copy of the folder's files: all that it prints, and its status, are what is stored."""
-    with tempfile.TemporaryDirectory(prefix="cases-") as room:
-        shutil.copytree(f"{folder}/data", room, dirs_exist_ok=True)
-        ran = run(line.split()[1:], room, joined=True)
-    came = ran.out + f"{line}: status {ran.status}\n".encode()
-    return Sum(int(came == wanted), [] if came == wanted else [told(f"lines: {line}", *differing(wanted, came))], {})
-
-
-def lines(folder):
-    """The lines of the program, each with what its stored output has of it: all up to the line that ends with the status."""
-    with open(f"{folder}/stdout", "rb") as file:
-        left = file.read()
-    for number, line in enumerate(open(f"{folder}/data/lines").read().splitlines(), 1):
-        end = re.compile(rb"^" + re.escape(line.encode()) + rb": status \d+\n", re.M).search(left).end()
-        yield number, compare_line, (folder, line, left[:end])
-        left = left[end:]
 
 
 # ---- calls: steps of a machine with what it shows between them, histories, sessions of the debugger

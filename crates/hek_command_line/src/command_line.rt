@@ -229,17 +229,23 @@ fn follow_call<
 
 /// Whether the words of a command line, the program's name first, ask a question to which 1 answers no.
 fn asks_question<S: AsStr>(words: &[S]) -> bool {
-    let name = match words.get(1) {
-        Some(name) => name.as_str(),
-        None => return false,
-    };
-    let Some(command) = Command::named(name) else {
+    let Some(command) = command_in(words) else {
         return false;
     };
     match command.asking_option() {
         None => false,
         Some(option) => has_option(words, option),
     }
+}
+
+/// The command that words name, the program's name first: options may stand before it.
+fn command_in<S: AsStr>(words: &[S]) -> Option<Command> {
+    for word in words.iter().skip(1) {
+        if !word.as_str().starts_with('-') {
+            return Command::named(word.as_str());
+        }
+    }
+    None
 }
 
 /// Whether one of the words is this option; each is that without a name.

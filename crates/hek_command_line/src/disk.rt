@@ -174,10 +174,13 @@ impl<D: Disk, W: Write> Write for Output<'_, '_, '_, D, W> {
             return memory.write(buf);
         }
         match &mut self.file {
-            Some(file) => {
-                self.stream.write_to(buf, file)?;
-                Ok(buf.len())
-            }
+            Some(file) => match self.stream.write_to(buf, file) {
+                Ok(()) => Ok(buf.len()),
+                Err(error) => {
+                    file.kept.note(error.kind());
+                    Err(error)
+                }
+            },
             None => self.stream.write(buf),
         }
     }

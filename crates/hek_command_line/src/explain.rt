@@ -5,14 +5,14 @@ use crate::call::{Answer, Call};
 use crate::disk::Disk;
 use crate::lock_words::advise_words;
 use crate::opening::without_mark;
-use crate::programs::{explain_line, explain_place};
+use crate::programs::{bare_of, explain_line, explain_place};
 use crate::reasons::{why_not_read, why_not_written};
 use crate::said::Said;
 use crate::sought::advise_sought;
 use hek_diagnostics::{explain_bytes, explain_image, explain_trace};
 use hek_image::LoadFault;
 use hek_report::{HekFault, ScheduleFile, report, schedule_in};
-use hek_rules::Schedule;
+use hek_rules::{NoMemory, Schedule};
 use std::alloc::Global;
 use std::io::{Cursor, ErrorKind, Read, Write};
 use std::str;
@@ -70,7 +70,7 @@ impl<'a, D: Disk, I: Read + Drop, W: Write, E: Write> Call<'_, '_, '_, 'a, D, I,
         if self.flag("json") {
             if let Some(fault) = self.faults.fault() {
                 let mut said = Said::new(self.alloc, status, fault);
-                self.put_object(&mut said);
+                self.put_object(status, &mut said);
             }
         }
         status
@@ -86,6 +86,9 @@ impl<'a, D: Disk, I: Read + Drop, W: Write, E: Write> Call<'_, '_, '_, 'a, D, I,
         }
         let alloc = self.alloc;
         let Ok(line) = format!(in alloc; "{fault}") else {
+            if is_json {
+                self.put_no_memory(status);
+            }
             return status;
         };
         let line = line.as_str();
@@ -97,7 +100,7 @@ impl<'a, D: Disk, I: Read + Drop, W: Write, E: Write> Call<'_, '_, '_, 'a, D, I,
             self.put_lines(&mut said);
         }
         if is_json {
-            self.put_object(&mut said);
+            self.put_object(status, &mut said);
         }
         status
     }
@@ -109,11 +112,22 @@ impl<'a, D: Disk, I: Read + Drop, W: Write, E: Write> Call<'_, '_, '_, 'a, D, I,
         }
     }
 
-    /// Writes the object of a fault. What can't be written is left out.
-    fn put_object(&mut self, said: &mut Said) {
-        if let Ok(object) = said.take_object() {
-            let _ = self.out.write_all(object.as_slice());
+    /// Writes the object of a fault, or that memory ran out for it. What can't be written is left out.
+    fn put_object(&mut self, status: u8, said: &mut Said) {
+        match said.take_object() {
+            Ok(object) => {
+                let _ = self.out.write_all(object.as_slice());
+            }
+            Err(_) => self.put_no_memory(status),
         }
+    }
+
+    /// Writes the object that says that memory ran out, which takes none.
+    fn put_no_memory(&mut self, status: u8) {
+        let _ = writeln!(
+            self.out,
+            r#"{{"kind":"fault","status":{status},"fault":"no memory"}}"#
+        );
     }
 
     /// Explains a fault, as far as something is known of it.
@@ -165,12 +179,28 @@ impl<'a, D: Disk, I: Read + Drop, W: Write, E: Write> Call<'_, '_, '_, 'a, D, I,
         if let Some(advice) = advice_of(self.command, self.found) {
             advice.say(said);
         } else if let Some(text) = self.given("find") {
-            let schedule = schedule_of(self.alloc, self.kept.file_bytes(self.alloc));
-            advise_sought(text, schedule.as_ref(), said);
+            match self.schedule_sought_in() {
+                Ok(schedule) => advise_sought(text, schedule.as_ref(), said),
+                Err(NoMemory) => said.lack_memory(),
+            }
         } else if let Some(value) = self.given("order") {
             Advice::of_order(value).say(said);
         } else {
             advise_words(self.found, said);
+        }
+    }
+
+    /// The schedule of FILE, in which something is sought: that of a program without what it computes.
+    fn schedule_sought_in(&self) -> Result<Option<Schedule>, NoMemory> {
+        let bytes = self.kept.file_bytes(self.alloc);
+        if bytes.is_empty() {
+            return Ok(None);
+        }
+        let bare = bare_of(self.alloc, without_mark(bytes.as_slice()))?;
+        match schedule_of(self.alloc, bare.unwrap_or(bytes)) {
+            Some(schedule) => Ok(Some(schedule)),
+            // The command has read the file without a fault.
+            None => Err(NoMemory),
         }
     }
 

@@ -4,9 +4,9 @@ use crate::said::Said;
 use clap::ArgMatches;
 use hek_asm::{AsmKind, assemble_text};
 use hek_diagnostics::{Excerpt, explain_text};
-use hek_program::{ComputedLine, bare_text, computed_line, read_program};
+use hek_program::{ComputedLine, ProgramFault, bare_text, computed_line, read_program};
 use hek_report::{HekFault, ScheduleFile};
-use hek_rules::next_line;
+use hek_rules::{NoMemory, next_line};
 use std::alloc::Global;
 use std::io::Read;
 use std::str;
@@ -71,13 +71,15 @@ pub fn explain_line(
 ) {
     if takes_programs(command, found) {
         return match bare_of(said.alloc, text) {
-            Some(bare) => explain_bare(name, bare.as_slice(), line, kind, said),
-            None => explain_bare(name, text, line, kind, said),
+            Ok(Some(bare)) => explain_bare(name, bare.as_slice(), line, kind, said),
+            Ok(None) => explain_bare(name, text, line, kind, said),
+            Err(NoMemory) => said.lack_memory(),
         };
     }
     match program_line(said.alloc, text, line) {
-        Some(what) => explain_computed(name, text, line, what, said),
-        None => explain_bare(name, text, line, kind, said),
+        Ok(Some(what)) => explain_computed(name, text, line, what, said),
+        Ok(None) => explain_bare(name, text, line, kind, said),
+        Err(NoMemory) => said.lack_memory(),
     }
 }
 
@@ -91,18 +93,33 @@ fn explain_bare<'t>(name: &'t str, text: &'t [u8], line: u64, kind: AsmKind, sai
 }
 
 /// What the line of this number has that only a program has, if the text is a program and this is its first such line.
-fn program_line(alloc: Global, text: &[u8], line: u64) -> Option<&'static str> {
-    let text = str::from_utf8(text).ok()?;
-    let ComputedLine { number, what } = computed_line(text)?;
-    read_program(alloc, text).ok()?;
-    if number == line { Some(what) } else { None }
+fn program_line(alloc: Global, text: &[u8], line: u64) -> Result<Option<&'static str>, NoMemory> {
+    let Ok(text) = str::from_utf8(text) else {
+        return Ok(None);
+    };
+    let Some(ComputedLine { number, what }) = computed_line(text) else {
+        return Ok(None);
+    };
+    match read_program(alloc, text) {
+        Ok(_) if number == line => Ok(Some(what)),
+        Err(ProgramFault::NoMemory) => Err(NoMemory),
+        _ => Ok(None),
+    }
 }
 
 /// A program's text without what its lines compute; None of a schedule's.
-fn bare_of(alloc: Global, text: &[u8]) -> Option<Vec<u8>> {
-    let text = str::from_utf8(text).ok()?;
-    computed_line(text)?;
-    bare_text(alloc, text).ok()
+pub fn bare_of(alloc: Global, text: &[u8]) -> Result<Option<Vec<u8>>, NoMemory> {
+    let Ok(text) = str::from_utf8(text) else {
+        return Ok(None);
+    };
+    if computed_line(text).is_none() {
+        return Ok(None);
+    }
+    match bare_text(alloc, text) {
+        Ok(bare) => Ok(Some(bare)),
+        Err(ProgramFault::NoMemory) => Err(NoMemory),
+        Err(_) => Ok(None),
+    }
 }
 
 /// Shows the place of a program's fault.

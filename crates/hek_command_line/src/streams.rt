@@ -171,11 +171,13 @@ impl<'o, W: Write> Stream<'o, W> {
         self.put(bytes)
     }
 
-    /// Writes what is kept of a line.
+    /// Writes what is kept of a line, unless the stream has failed: then it is no whole line.
     fn put_rest(&mut self) -> io::Result<()> {
         self.clear()?;
         let line = mem::replace(&mut self.line, Vec::new(self.alloc));
-        show(self.alloc, line.as_slice(), self.out)?;
+        if self.failure.is_none() {
+            show(self.alloc, line.as_slice(), self.out)?;
+        }
         if self.last == Last::Begun && self.passes {
             self.last = Last::Passing;
             if !self.is_over {

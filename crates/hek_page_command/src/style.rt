@@ -293,7 +293,7 @@ kbd { display: inline-block; min-width: 1.5em; text-align: center; border: 1px s
 .nodename { fill: var(--on); font-weight: 700; font-size: 1.2em; }
 .nodenote { font-size: 1em; fill: var(--soft); } .nodenote.bad { fill: var(--bad); }
 .node.dead circle { fill: var(--bg); stroke: var(--bad); stroke-width: 3; } .node.dead .nodename { fill: var(--bad); }
-.crossed { fill: var(--bad) !important; stroke: var(--bg) !important; stroke-width: 1 !important; } .strike { stroke: var(--bg); stroke-width: 2.6; fill: none; }
+.crossed { fill: var(--bad) !important; stroke: var(--bg) !important; stroke-width: 1 !important; } .cross { stroke: var(--bg); stroke-width: 2.6; fill: none; }
 .endword { font-family: ui-monospace, "SF Mono", Consolas, "Liberation Mono", monospace; font-size: 0.94em; fill: var(--soft); } .touched .endword { fill: var(--ink); font-weight: 700; }
 .node.victim circle { stroke-width: 5; }
 .edge .line { fill: none; stroke: var(--ink); stroke-width: 3.4; } .edge .tip { fill: var(--ink); }
@@ -328,7 +328,7 @@ kbd { display: inline-block; min-width: 1.5em; text-align: center; border: 1px s
 .outcomes .n { font-size: 1.5rem; font-weight: 700; text-align: right; font-variant-numeric: tabular-nums; } .swatch { width: 1rem; height: 1rem; }
 .outcomes .what { font-size: 1.05rem; line-height: 1.2; } .outcomes .rail { grid-column: 4 / -1; height: 0.5rem; background: var(--bg); } .rail i { display: block; height: 100%; }
 .outcomes .out { color: var(--soft); } .outcomes .out .swatch { visibility: hidden; }
-.outcomes[style] li { grid-template-columns: calc(var(--digits) * 0.63rem) 1rem 1rem 1fr auto; } .outcomes[style] .n { font-size: 1.1rem; } @media (max-width: 62rem) { .outcomes[style] li { grid-template-columns: calc(var(--digits) * 0.52rem) 1rem 1rem 1fr auto; } .outcomes[style] .n { font-size: 0.9rem; } }
+.outcomes[style] li { grid-template-columns: calc(var(--digits) * 0.7rem) 1rem 1rem 1fr auto; } .outcomes[style] .n { font-size: 1.1rem; } @media (max-width: 62rem) { .outcomes[style] li { grid-template-columns: calc(var(--digits) * 0.58rem) 1rem 1rem 1fr auto; } .outcomes[style] .n { font-size: 0.9rem; } }
 .outcomes.many { gap: 0.2rem; margin-top: 0; } .many .rail { display: none; } .many .what { white-space: nowrap; overflow: hidden; text-overflow: ellipsis; } .many .n { font-size: 1.2rem; line-height: 1.2; } .many button { padding-top: 0.1rem; padding-bottom: 0.1rem; }
 .many .rest { display: block; padding-left: 3.1rem; } @media (max-width: 40rem) { .many .what { white-space: normal; } }
 .tree main { grid-template-rows: auto minmax(7.4rem, 0.7fr) minmax(0, 1.3fr); }

@@ -148,7 +148,10 @@ function showTree() {
   $("path").hidden = false;
   $("path").innerHTML = `<button type="button" data-crumb="0"${place === 0 ? ' aria-current="true"' : ""}>start</button>${crumbs.map((it) => `<span aria-hidden="true">\u203a</span>${it}`).join("")}<span class="space"></span><button type="button" data-do="undo"${place === 0 ? " disabled" : ""} title="Backspace">\u21b6 undo</button>`;
   const current = $("path").querySelector('[aria-current="true"]');
-  if (current) $("path").scrollLeft = Math.max(0, current.offsetLeft - $("path").clientWidth * 0.4);
+  if (current) {
+    const path = $("path"), covered = path.lastElementChild.offsetWidth + 8, last = current.offsetLeft + current.offsetWidth + covered - path.clientWidth;
+    path.scrollLeft = Math.max(0, current.offsetLeft - path.clientWidth * 0.4, Math.min(current.offsetLeft, last));
+  }
   // the choices
   const whole = node.next.length === 0;
   const reach = total(node.counts);

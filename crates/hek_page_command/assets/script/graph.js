@@ -124,7 +124,7 @@ function graphNode(id, at, isHit) {
   const [name, short] = [nameOf(id), shortOf(id)];
   const isWhole = name === short || (name.length <= 3 && widthOf(name, 1.2 * u, 700) < 2 * r - 0.4 * u);
   const out = [`<g class="node ${colourOf(id)}${isDead ? " dead" : ""}${isHit ? " victim" : ""}"><title>${esc(name)}</title><circle cx="${f1(x)}" cy="${f1(y)}" r="${f1(r)}"/><text class="nodename" x="${f1(x)}" y="${f1(y + 0.44 * u)}" text-anchor="middle">${esc(isWhole ? name : short)}</text>`];
-  if (isDead) out.push(`<circle class="crossed" cx="${f1(x + r * 0.8)}" cy="${f1(y - r * 0.8)}" r="${f1(0.5 * u)}"/><path class="strike" d="M${f1(x + r * 0.8 - 0.22 * u)} ${f1(y - r * 0.8 - 0.22 * u)}l${f1(0.44 * u)} ${f1(0.44 * u)}m0 ${f1(-0.44 * u)}l${f1(-0.44 * u)} ${f1(0.44 * u)}"/>`);
+  if (isDead) out.push(`<circle class="crossed" cx="${f1(x + r * 0.8)}" cy="${f1(y - r * 0.8)}" r="${f1(0.5 * u)}"/><path class="cross" d="M${f1(x + r * 0.8 - 0.22 * u)} ${f1(y - r * 0.8 - 0.22 * u)}l${f1(0.44 * u)} ${f1(0.44 * u)}m0 ${f1(-0.44 * u)}l${f1(-0.44 * u)} ${f1(0.44 * u)}"/>`);
   // the inner nodes of a wide graph have their words between them
   const side = (x < W / 2 - u ? -1 : 1) * (at.isWide ? -1 : 1);
   const phase = isHit ? "victim" : it.doomed && !isDead ? "must abort" : it.kind === "active" && it.finished ? "finished" : it.kind;
