@@ -5,7 +5,7 @@ pub(crate) const FRONT: &str = r#"<!DOCTYPE html>
 <head>
 <meta charset="utf-8">
 <meta name="viewport" content="width=device-width, initial-scale=1">
-<meta http-equiv="Content-Security-Policy" content="default-src 'none'; script-src 'sha256-yBB6FwGNAGEXnKQ+zFeU6fV4nVePFCaqAkmnJl99B9c='; style-src 'sha256-88BJqsqPWIws6OJbORI//D0mybHMGXcbs5mjjANcUwk='; style-src-attr 'unsafe-inline'; img-src data:; base-uri 'none'; form-action 'none'">
+<meta http-equiv="Content-Security-Policy" content="default-src 'none'; script-src 'sha256-yBB6FwGNAGEXnKQ+zFeU6fV4nVePFCaqAkmnJl99B9c='; style-src 'sha256-o2J2S7XvsGtXwHqjjZtoZSxgQURfn1a8txMgK3Cb1Cc='; style-src-attr 'unsafe-inline'; img-src data:; base-uri 'none'; form-action 'none'">
 <title>"#;
 
 pub(crate) const HEAD: &str = r#"</title>

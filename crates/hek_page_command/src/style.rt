@@ -333,7 +333,7 @@ kbd { display: inline-block; min-width: 1.5em; text-align: center; border: 1px s
 .many .rest { display: block; padding-left: 3.1rem; } @media (max-width: 40rem) { .many .what { white-space: normal; } }
 .tree main { grid-template-rows: auto minmax(7.4rem, 0.7fr) minmax(0, 1.3fr); }
 .final { font-size: 1.25rem; }
-.events { display: flex; flex-wrap: wrap; gap: 0.2rem; margin-top: 0.25rem !important; } .events button { font-size: 0.95rem; padding: 0 0.4rem; border-color: var(--line); } .events .waits { background: var(--warn-bg); border-color: var(--warn); } .events .aborts { border-color: var(--bad); color: var(--bad); font-weight: 700; } .events .commits { border-color: var(--com); color: var(--good); font-weight: 700; } .events [aria-current] { outline: 2px solid var(--ink); } .events .ahead { border-style: dashed; }
+.events { display: flex; flex-wrap: wrap; gap: 0.2rem; margin-top: 0.25rem !important; } .events button { font-size: 0.95rem; padding: 0 0.4rem; border-color: var(--line); } .events .waits { background: var(--warn-bg); border-color: var(--warn); } .events .aborts { border-color: var(--bad); color: var(--bad); font-weight: 700; } .events .commits { border-color: var(--com); color: var(--good); font-weight: 700; } .events [aria-current] { outline: 2px solid var(--ink); outline-offset: -2px; } .events .ahead { border-style: dashed; }
 .tree .plain { font-size: 1.3rem; }
 #levels { display: none; } body.levels main > :not(#levels) { display: none; } body.levels main { display: block; overflow: auto; } body.levels #levels { display: block; } body.levels #bar nav { visibility: hidden; }
 #levels table { border-collapse: collapse; width: 100%; margin: 0.6rem 0 1rem; } #levels caption { text-align: left; color: var(--soft); padding-bottom: 0.3rem; } #levels :is(td, th) { text-align: left; padding: 0.2rem 0.7rem; border-bottom: 1px solid var(--line); } #levels thead th { font-weight: 600; }
@@ -358,7 +358,7 @@ dialog::backdrop { background: #0009; }
   .modes { padding-right: 2.2rem; -webkit-mask-image: linear-gradient(90deg, #000 calc(100% - 2.4rem), transparent); mask-image: linear-gradient(90deg, #000 calc(100% - 2.4rem), transparent); }
   main { display: block; padding: 0.2rem 0.5rem; }
   #top { position: sticky; top: 0; background: var(--bg); z-index: 2; padding-bottom: 0.3rem; }
-  #say { display: block; height: auto; max-height: 15.5rem; overflow: auto; } .plain { font-size: 1.2rem; } .event { font-size: 1.05rem; } .tree #say { height: auto; max-height: 19rem; }
+  #say, .tree #say { display: block; height: auto; } .plain { font-size: 1.2rem; } .event { font-size: 1.05rem; }
   .choices button { font-size: 0.95rem; padding: 0.4rem 0.35rem; } .pick { grid-template-columns: 1fr; gap: 0.3rem; }
   .panel { margin-top: 0.5rem; } .legend { display: block; margin-left: 0; } .legend svg:first-child { margin-left: 0; } #waits .fill { height: 8rem; flex: none; } .fill { overflow: visible; contain: none; }
 }
